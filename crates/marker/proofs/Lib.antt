@@ -1,0 +1,6 @@
+pub mod MarkerLaws
+pub mod SkipLaws
+pub mod SheetLaws
+pub mod ScanLaws
+pub mod RegionLaws
+pub mod CallLaws

@@ -1,0 +1,109 @@
+-- Laws of `specs/Decimal.antt`: a number's digits by its tenth, how many they are, and their writing from the last one on.
+-- Assumes nothing.
+use Prim.Native.Nat.{ℕ, zero, suc, _+_, _/_, _%_, _^_, _≤_, _<_, zero-le}
+use native.Mathlib.Decide.{decLe}
+use native.Mathlib.Omega.{arith}
+use mathlib.Core.Path.{_≡_, sym, ap, _∙_}
+use mathlib.Core.Bool.{Bool, true, false, cond}
+use mathlib.Core.List.{List, [], _∷_, _++_}
+use lib.ListN.{length, set, length-append}
+use lib.Seq.{sets}
+use lib.Dec.{ltb}
+use borrow.Author.Tests.{le-ltb, lt-ltb}
+use Rattle.text.specs.Decimal.{digits, decimal}
+use Rattle.text.proofs.BufferLaws.{sets-append, sets-comm}
+
+digits-small : (f n : ℕ) → n < 10 → digits (suc f) n ≡ (0x30 + n) ∷ []
+unfolding digits
+digits-small f n h = rw (lt-ltb n 10 h)
+
+digits-large : (f n : ℕ) → 10 ≤ n → digits (suc f) n ≡ digits f (n / 10) ++ ((0x30 + n % 10) ∷ [])
+unfolding digits
+digits-large f n h = rw (le-ltb n 10 h)
+
+-- digits enough are enough
+more-digits : (f n : ℕ) → n < 10 ^ suc f → digits (suc f) n ≡ digits (suc (suc f)) n
+more-digits zero n h = digits-small 0 n (omega arith) ∙ sym (digits-small 1 n (omega arith))
+more-digits (suc f) n h = go (decLe 10 n) (more-digits f (n / 10) (omega arith))
+  where
+    go : Dec (10 ≤ n) → digits (suc f) (n / 10) ≡ digits (suc (suc f)) (n / 10) → digits (suc (suc f)) n ≡ digits (suc (suc (suc f))) n
+    go (yes q) ih = digits-large (suc f) n q ∙ ap (λ (l : List ℕ). l ++ ((0x30 + n % 10) ∷ [])) ih ∙ sym (digits-large (suc (suc f)) n q)
+    go (no q) ih = digits-small (suc f) n (omega arith) ∙ sym (digits-small (suc (suc f)) n (omega arith))
+
+pub decimal-small : (n : ℕ) → n < 10 → decimal n ≡ (0x30 + n) ∷ []
+unfolding decimal
+decimal-small n h = digits-small 19 n h
+
+pub decimal-large : (n : ℕ) → 10 ≤ n → n < 2 ^ 64 → decimal n ≡ decimal (n / 10) ++ ((0x30 + n % 10) ∷ [])
+unfolding decimal
+decimal-large n h k = digits-large 19 n h ∙ ap (λ (l : List ℕ). l ++ ((0x30 + n % 10) ∷ [])) (more-digits 18 (n / 10) (omega arith))
+
+-- how many digits: one, or one more than the tenth has
+pub decimal-one : (n : ℕ) → n < 10 → length (decimal n) ≡ 1
+decimal-one n h = rw (decimal-small n h)
+
+pub decimal-suc : (n : ℕ) → 10 ≤ n → n < 2 ^ 64 → length (decimal n) ≡ suc (length (decimal (n / 10)))
+decimal-suc n h k =
+    ap length (decimal-large n h k) ∙ omega (arith, length-append (decimal (n / 10)) ((0x30 + n % 10) ∷ []))
+
+pub decimal-two : (n : ℕ) → 10 ≤ n → n < 100 → length (decimal n) ≡ 2
+decimal-two n h k = omega (arith, decimal-suc n h (omega arith), decimal-one (n / 10) (omega arith))
+
+pub decimal-three : (n : ℕ) → 100 ≤ n → n < 1000 → length (decimal n) ≡ 3
+decimal-three n h k = omega (arith, decimal-suc n (omega arith) (omega arith), decimal-two (n / 10) (omega arith) (omega arith))
+
+pub decimal-four : (n : ℕ) → 1000 ≤ n → n < 10000 → length (decimal n) ≡ 4
+decimal-four n h k = omega (arith, decimal-suc n (omega arith) (omega arith), decimal-three (n / 10) (omega arith) (omega arith))
+
+-- four digits at a time
+pub decimal-by-four : (n : ℕ) → 10000 ≤ n → n < 2 ^ 64 → length (decimal n) ≡ 4 + length (decimal (n / 10000))
+decimal-by-four n h k =
+    let a : ℕ = n / 10 in
+    let b : ℕ = a / 10 in
+    let d : ℕ = b / 10 in
+    let e : d / 10 ≡ n / 10000 = omega arith in
+    omega (
+      arith,
+      decimal-suc n (omega arith) k,
+      decimal-suc a (omega arith) (omega arith),
+      decimal-suc b (omega arith) (omega arith),
+      decimal-suc d (omega arith) (omega arith),
+      ap (λ (m : ℕ). length (decimal m)) e,
+    )
+
+digits-le : (f n : ℕ) → length (digits f n) ≤ f
+unfolding digits
+digits-le zero n = zero-le
+digits-le (suc f) n = go (ltb n 10) (digits-le f (n / 10))
+  where
+    go : (b : Bool) → length (digits f (n / 10)) ≤ f
+        → length (cond b ((0x30 + n) ∷ []) (digits f (n / 10) ++ ((0x30 + n % 10) ∷ []))) ≤ suc f
+    go true h = omega arith
+    go false h = omega (arith, length-append (digits f (n / 10)) ((0x30 + n % 10) ∷ []))
+
+pub decimal-le : (n : ℕ) → length (decimal n) ≤ 20
+unfolding decimal
+decimal-le n = digits-le 20 n
+
+digits-some : (f n : ℕ) → 0 < length (digits (suc f) n)
+unfolding digits
+digits-some f n = go (ltb n 10)
+  where
+    go : (b : Bool) → 0 < length (cond b ((0x30 + n) ∷ []) (digits f (n / 10) ++ ((0x30 + n % 10) ∷ [])))
+    go true = omega arith
+    go false = omega (arith, length-append (digits f (n / 10)) ((0x30 + n % 10) ∷ []))
+
+pub decimal-some : (n : ℕ) → 0 < length (decimal n)
+unfolding decimal
+decimal-some n = digits-some 19 n
+
+-- a number at place i is written by its last digit and then its tenth; a digit is written by itself
+pub put-large : (l : List ℕ) (i m : ℕ) → 10 ≤ m → m < 2 ^ 64
+    → sets (set l (i + length (decimal (m / 10))) (0x30 + m % 10)) i (decimal (m / 10)) ≡ sets l i (decimal m)
+put-large l i m h k =
+    let a : List ℕ = decimal (m / 10) in
+    let b : List ℕ = (0x30 + m % 10) ∷ [] in
+    sym (sets-comm l a b i (i + length a) (omega arith)) ∙ sets-append l a b i ∙ ap (sets l i) (sym (decimal-large m h k))
+
+pub put-small : (l : List ℕ) (i m : ℕ) → m < 10 → set l i (0x30 + m) ≡ sets l i (decimal m)
+put-small l i m h = rw (decimal-small m h)

@@ -1,0 +1,6 @@
+pub mod BufferLaws
+pub mod DecimalLaws
+pub mod BytesLaws
+pub mod AsciiLaws
+pub mod PatternLaws
+pub mod LineLaws

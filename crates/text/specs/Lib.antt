@@ -1,0 +1,6 @@
+pub mod Bytes
+pub mod Pattern
+pub mod Space
+pub mod Lines
+pub mod Decimal
+pub mod Ascii

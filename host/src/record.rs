@@ -1,0 +1,149 @@
+//! Writes the stored cases of the program `replay`: what it reads and what it
+//! has to print, all of it from the Rust's answers.
+
+mod json;
+
+use std::fs;
+use std::path::Path;
+
+use jilgyemot_host::generate::{damaged, marked, straddling};
+use jilgyemot_host::notes::{marker_in_each_line, notes};
+use jilgyemot_host::oracle::Expected;
+use jilgyemot_host::random::Random;
+
+const USAGE: &str = "usage: record FOLDER --examples FILE";
+
+const MOST_TEXT: usize = 16_384;
+const MOST_OUTPUT: usize = 65_536;
+
+/// Document 01's example (K1) and its listing.
+const K1: &str = "# Stage\n\
+    Limit <!--[const:MAX]-->6 m<!--[/]-->.\n\
+    <!--[fragment:a.md:peer]-->\n\
+    old\n\
+    <!--[/]-->\n\
+    <!--[/]-->\n";
+const K1_LISTING: &str = "span\t2\t19\t28\t32\t35\nregion\t3\t5\t61\t65\t1\nproblem\t6\t6\n";
+
+/// Document 01's K6 and its listing.
+const K6: &str = "<!--[fragment:a:b]-->\n";
+const K6_LISTING: &str = "problem\t1\t3\n";
+
+/// A text for each problem, problem 1 first. The problem is the last in its listing.
+const PROBLEMS: [&str; 10] = [
+    "```\n<!--[k]-->\n```\n",
+    "<!--[fragment:a]-->\n<!--[fragment:b]-->\n<!--[/]-->\n",
+    "x <!--[fragment:a]-->\n",
+    "<!--[fragment:a]-->\n",
+    "<!--[fragment:a]-->\n~~~\n",
+    "<!--[k]-->v<!--[/]--><!--[/]-->\n",
+    "<!--[k\n",
+    "<!--[k]-->v\n",
+    "<!--[k]-->v<!--[l]-->w<!--[/]-->\n",
+    "<!--[]-->v<!--[/]-->\n",
+];
+
+/// Shows after each line whether the scan is in a fence there.
+const MARKED_LINE: &str = "<!--[k]-->v<!--[/]-->\n";
+
+/// What `replay` reads and what it has to print.
+#[derive(Default)]
+struct Cases {
+    stdin: Vec<u8>,
+    stdout: Vec<u8>,
+}
+
+impl Cases {
+    fn add(&mut self, text: &[u8], size: usize) {
+        assert!(text.len() <= MOST_TEXT && size <= MOST_OUTPUT);
+        let expected = Expected::of(text);
+        let answer = expected.answer(size).map(|number| number.to_string()).join("\t");
+        self.stdin.extend(format!("{:06} {size:06}\n", text.len()).bytes());
+        self.stdin.extend(text);
+        self.stdout.extend(format!("{answer}\n").bytes());
+        self.stdout.extend(expected.written(size));
+    }
+
+    /// Once with room to spare, and once with exactly enough, one byte too
+    /// little, none or a random size.
+    fn add_twice(&mut self, text: &[u8], random: &mut Random) {
+        let full = Expected::of(text).full_size();
+        let other = match random.below(5) {
+            0 | 1 => full,
+            2 => full.saturating_sub(1),
+            3 => 0,
+            _ => random.within(0, full),
+        };
+        self.add(text, full + random.within(1, 300));
+        self.add(text, other);
+    }
+}
+
+fn listing(text: &str) -> String {
+    let expected = Expected::of(text.as_bytes());
+    String::from_utf8_lossy(expected.written(MOST_OUTPUT)).into_owned()
+}
+
+fn add_document_examples(cases: &mut Cases) {
+    assert_eq!(listing(K1), K1_LISTING);
+    for size in [MOST_OUTPUT, K1_LISTING.len(), K1_LISTING.len() - 1, 0] {
+        cases.add(K1.as_bytes(), size);
+    }
+    assert_eq!(listing(K6), K6_LISTING);
+    cases.add(K6.as_bytes(), 64);
+    for (index, text) in PROBLEMS.iter().enumerate() {
+        assert!(listing(text).ends_with(&format!("\t{}\n", index + 1)), "{text:?}");
+        cases.add(text.as_bytes(), 64);
+    }
+    cases.add(b"", 0);
+    cases.add(b"a\n\xe9\n", 64);
+}
+
+/// CommonMark's examples of fenced code blocks, as they are and with the marked
+/// line after each of their lines.
+fn add_commonmark(examples: &str, cases: &mut Cases) -> Option<()> {
+    for object in json::objects(examples)? {
+        let field = |name: &str| Some(&object.iter().find(|(found, _)| found == name)?.1);
+        if field("section")? != "4.5" {
+            continue;
+        }
+        let markdown = field("markdown")?;
+        let marked: String =
+            markdown.split_inclusive('\n').map(|line| line.to_string() + MARKED_LINE).collect();
+        for text in [markdown, &marked] {
+            cases.add(text.as_bytes(), 1_000);
+        }
+    }
+    Some(())
+}
+
+fn add_generated(cases: &mut Cases) {
+    let mut random = Random::new(1);
+    for kind in [marked, straddling, damaged] {
+        for _ in 0..60 {
+            let text = kind(&mut random);
+            if text.len() <= 800 {
+                cases.add_twice(&text, &mut random);
+            }
+        }
+    }
+    cases.add_twice(&notes(4_000, &mut random), &mut random);
+    cases.add(&marker_in_each_line(MOST_TEXT), MOST_OUTPUT);
+}
+
+fn main() -> std::io::Result<()> {
+    let words: Vec<String> = std::env::args().skip(1).collect();
+    let (folder, examples) = match words.as_slice() {
+        [folder, option, examples] if option == "--examples" => (folder, examples),
+        _ => {
+            eprintln!("{USAGE}");
+            std::process::exit(2);
+        }
+    };
+    let mut cases = Cases::default();
+    add_document_examples(&mut cases);
+    add_commonmark(&fs::read_to_string(examples)?, &mut cases).expect("a list of examples");
+    add_generated(&mut cases);
+    fs::write(Path::new(folder).join("stdin"), cases.stdin)?;
+    fs::write(Path::new(folder).join("stdout"), cases.stdout)
+}
