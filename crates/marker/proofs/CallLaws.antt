@@ -1,10 +1,10 @@
 -- Laws of `specs/ScanCall.antt`: the answer and the output of the scan call, by its tests. Assumes nothing.
-use Prim.Native.Nat.{ℕ, _≤_, _<_, min}
+use Prim.Native.Nat.{ℕ, _≤_, _<_}
 use native.Mathlib.Omega.{arith}
 use mathlib.Core.Path.{_≡_, refl, subst}
 use mathlib.Core.Bool.{Bool, true, false, cond}
 use mathlib.Core.List.{List, [], _∷_, _++_}
-use lib.ListN.{length, drop, drop-of-length-le}
+use lib.ListN.{length, drop}
 use lib.Dec.{eqb, leb}
 use borrow.Author.Tests.{le-leb, lt-leb, leb-true, ne-eqb}
 use Rattle.text.specs.Ascii.{wideLine}
@@ -14,34 +14,20 @@ use Rattle.answer.specs.declared.Answer.the-variants.{Accepted, NoRegion, Refus
 use Rattle.answer.specs.declared.Refusal.the-variants.{WideByte, TextLimit}
 use Rattle.marker.specs.Listing.{listing}
 use Rattle.marker.specs.ScanCall.{answerOf, outputOf}
-use Rattle.marker.specs.Sheet.{TOP}
 
 -- n is the listing's length, as it was counted, of a text without wide bytes
-module _ (s out : List ℕ) (n : ℕ) (wide : wideLine 1 s ≡ 0) (room : length out < TOP) (q : n ≡ min (length (listing s)) TOP) where
-  pub fits-answer : n ≤ length out → Accepted n 0 ≡ answerOf (length out) s
+module _ (s out : List ℕ) (n : ℕ) (wide : wideLine 1 s ≡ 0) where
+  pub fits-answer : n ≤ length out → n ≡ length (listing s) → Accepted n 0 ≡ answerOf (length out) s
   unfolding answerOf
-  fits-answer h =
-      let m : n ≡ length (listing s) = omega arith in
-      rw (wide, le-leb (length (listing s)) (length out) (omega arith), m)
+  fits-answer h e = rw (wide, le-leb (length (listing s)) (length out) (omega arith), e)
 
-  pub fits-length : n ≤ length out → length (listing s) ≤ length out
-  fits-length h = omega arith
-
-  pub fits-output : n ≤ length out → {bytes : List ℕ} → bytes ≡ listing s ++ drop (length (listing s)) out → bytes ≡ outputOf (Accepted n 0) s out
+  pub fits-output : n ≡ length (listing s) → {bytes : List ℕ} → bytes ≡ listing s ++ drop (length (listing s)) out → bytes ≡ outputOf (Accepted n 0) s out
   unfolding outputOf
-  fits-output h e =
-      let m : n ≡ length (listing s) = omega arith in
-      rw m e
+  fits-output e h = rw e h
 
-  pub empty-output : n ≡ 0 → out ≡ outputOf (Accepted n 0) s out
-  unfolding outputOf
-  empty-output h =
-      let z : listing s ≡ [] = drop-of-length-le (listing s) {i = 0} (omega arith) in
-      rw (h, z)
-
-  pub short-answer : length out < n → Refused (TextLimit (place 0 0)) ≡ answerOf (length out) s
+  pub short-answer : length out < length (listing s) → Refused (TextLimit (place 0 0)) ≡ answerOf (length out) s
   unfolding answerOf
-  short-answer h = rw (wide, lt-leb (length (listing s)) (length out) (omega arith))
+  short-answer h = rw (wide, lt-leb (length (listing s)) (length out) h)
 
 pub wide-answer : (s : List ℕ) (room n : ℕ) → n ≡ wideLine 1 s → (n ≡ 0 → ⊥) → Refused (WideByte (place 0 n)) ≡ answerOf room s
 unfolding answerOf

@@ -4,3 +4,4 @@ pub mod SheetLaws
 pub mod ScanLaws
 pub mod RegionLaws
 pub mod CallLaws
+pub mod ListLaws

@@ -11,10 +11,10 @@ use lib.ListN.{length, take, drop, getD, set, length-append, drop-of-length-le}
 use lib.Seq.{sets, sets-eq, length-sets, drop-cons, getD-take, length-take-le}
 use Rattle.text.specs.Lines.{LF}
 use Rattle.text.specs.Decimal.{decimal}
-use Rattle.text.proofs.BufferLaws.{sets-append, sets-comm}
+use Rattle.text.proofs.BufferLaws.{sets-append, sets-comm, sets-there, sets-behind}
 use Rattle.marker.specs.Scan.{scan}
 use Rattle.marker.specs.Listing.{cells, rowOf, row, spanRows, regionRows, problemRows, listing}
-use Rattle.marker.specs.Sheet.{TOP, add, putAt, Sheet, sheet, write, written, lengthsOf}
+use Rattle.marker.specs.Sheet.{zoneRows, TOP, add, putAt, Sheet, sheet, write, written}
 use Rattle.marker.specs.declared.event.Event.{Event}
 use Rattle.marker.specs.declared.event.Event.the-variants.{OfSpan, OfRegion, OfProblem}
 use Rattle.marker.specs.declared.listing.Places.{Places}
@@ -69,7 +69,7 @@ abbrev pub places : ℕ → ℕ → ℕ → Places
 places p q r = record { spans = p; regions = q; problems = r }
 
 -- each place moves on by the rows of its kind
-moved : (es : List Event) (p q r : ℕ) (b : List ℕ) → p ≤ TOP → q ≤ TOP → r ≤ TOP
+pub moved : (es : List Event) (p q r : ℕ) (b : List ℕ) → p ≤ TOP → q ≤ TOP → r ≤ TOP
     → written es (sheet (places p q r) b) .at
     ≡ places (add p (length (spanRows es))) (add q (length (regionRows es))) (add r (length (problemRows es)))
 unfolding written write spanRows regionRows problemRows
@@ -87,11 +87,8 @@ moved (OfProblem l k ∷ es) p q r b h i j =
     moved es p q (add r (length (row (OfProblem l k)))) (putAt r (row (OfProblem l k)) b) h i (omega arith)
     ∙ ap (λ (n : ℕ). places (add p (length (spanRows es))) (add q (length (regionRows es))) n) (omega (arith, length-append (row (OfProblem l k)) (problemRows es)))
 
-pub measured : (s : List ℕ) (b : List ℕ) → written (scan s) (sheet (places 0 0 0) b) .at ≡ lengthsOf s
-measured s b = moved (scan s) 0 0 0 b (omega arith) (omega arith) (omega arith)
-
 -- where the rows of each kind end before those of the next begin, they stand at the three places
-rows : (es : List Event) (p q r : ℕ) (b : List ℕ) → p + length (spanRows es) ≤ q → q + length (regionRows es) ≤ r
+pub rows : (es : List Event) (p q r : ℕ) (b : List ℕ) → p + length (spanRows es) ≤ q → q + length (regionRows es) ≤ r
     → r + length (problemRows es) ≤ length b → length b < TOP
     → written es (sheet (places p q r) b) .bytes ≡ sets (sets (sets b p (spanRows es)) q (regionRows es)) r (problemRows es)
 unfolding written write spanRows regionRows problemRows
@@ -131,23 +128,48 @@ pub listing-length : (s : List ℕ)
 unfolding listing
 listing-length s = simp length-append
 
-pub total : (s : List ℕ) → add (add (lengthsOf s .spans) (lengthsOf s .regions)) (lengthsOf s .problems) ≡ min (length (listing s)) TOP
-total s = omega (arith, listing-length s)
+-- the whole listing written at the front
+pub front : (s out : List ℕ) → length (listing s) ≤ length out → sets out 0 (listing s) ≡ listing s ++ drop (length (listing s)) out
+front s out h = sets-eq (listing s) out 0 (omega arith) ∙ ap (λ (a : ℕ). listing s ++ drop a out) (zero-add (length (listing s)))
 
--- a listing that fits is what a text's events leave
-pub listed : (s out : List ℕ) → length (listing s) ≤ length out → length out < TOP
-    → written (scan s) (sheet (places 0 (lengthsOf s .spans) (add (lengthsOf s .spans) (lengthsOf s .regions))) out) .bytes
-    ≡ listing s ++ drop (length (listing s)) out
+-- a listing that fits is what a text's events leave, where its rows are placed one kind directly behind the other
+pub listed : (s out : List ℕ) (q r : ℕ) → length (listing s) ≤ length out → length out < TOP
+    → q ≡ length (spanRows (scan s)) → r ≡ q + length (regionRows (scan s))
+    → written (scan s) (sheet (places 0 q r) out) .bytes ≡ listing s ++ drop (length (listing s)) out
 unfolding listing
-listed s out h k =
+listed s out q r h k i j =
     let x : List ℕ = spanRows (scan s) in
     let y : List ℕ = regionRows (scan s) in
     let z : List ℕ = problemRows (scan s) in
     let n = listing-length s in
-    let i : add 0 (length x) ≡ length x = omega arith in
-    let j : add (add 0 (length x)) (add 0 (length y)) ≡ length x + length y = omega arith in
-    ap (λ (a : ℕ). written (scan s) (sheet (places 0 a (add (add 0 (length x)) (add 0 (length y)))) out) .bytes) i
-    ∙ ap (λ (a : ℕ). written (scan s) (sheet (places 0 (length x) a) out) .bytes) j
-    ∙ rows (scan s) 0 (length x) (length x + length y) out (omega arith) (omega arith) (omega arith) k
+    rows (scan s) 0 q r out (omega arith) (omega arith) (omega arith) k
+    ∙ ap (λ (a : ℕ). sets (sets (sets out 0 x) a y) r z) i
+    ∙ ap (λ (a : ℕ). sets (sets (sets out 0 x) (length x) y) a z) (j ∙ ap (λ (a : ℕ). a + length y) i)
     ∙ sets-append (sets out 0 x) y z (length x)
-    ∙ simp zero-add at (sets-append out x (y ++ z) 0 ∙ sets-eq (x ++ (y ++ z)) out 0 (omega arith))
+    ∙ ap (λ (a : ℕ). sets (sets out 0 x) a (y ++ z)) (sym (zero-add (length x)))
+    ∙ sets-append out x (y ++ z) 0
+    ∙ front s out h
+
+-- and the rows of each kind can be read there
+pub zoned : (s b : List ℕ) (p q r : ℕ) → p + length (spanRows (scan s)) ≤ q → q + length (regionRows (scan s)) ≤ r
+    → r + length (problemRows (scan s)) ≤ length b → length b < TOP
+    → zoneRows (places p q r) (places (p + length (spanRows (scan s))) (q + length (regionRows (scan s))) (r + length (problemRows (scan s)))) (written (scan s) (sheet (places p q r) b) .bytes)
+    ≡ listing s
+unfolding listing
+zoned s b p q r h i j k =
+    let x : List ℕ = spanRows (scan s) in
+    let y : List ℕ = regionRows (scan s) in
+    let z : List ℕ = problemRows (scan s) in
+    let u : List ℕ = sets b p x in
+    let v : List ℕ = sets u q y in
+    let m = length-sets b p x in
+    let n = length-sets u q y in
+    rw (
+      rows (scan s) p q r b h i j k,
+      sets-behind v z r p (p + length x) (omega arith),
+      sets-behind u y q p (p + length x) h,
+      sets-there b x p (p + length x) refl (omega arith),
+      sets-behind v z r q (q + length y) i,
+      sets-there u y q (q + length y) refl (omega arith),
+      sets-there v z r (r + length z) refl (omega arith),
+    )

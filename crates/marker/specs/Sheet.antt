@@ -1,12 +1,12 @@
 -- Rows written into one buffer at three places, one a kind. Nothing here is document 01's: inner functions promise it, and the laws of `proofs/` tie it to the listing.
-use Prim.Native.Nat.{ℕ, _+_, min}
-use mathlib.Core.Bool.{Bool, cond}
-use mathlib.Core.List.{List, [], _∷_}
+use Prim.Native.Nat.{ℕ, _+_, _-_, _≤_, min}
+use mathlib.Core.Bool.{Bool, cond, _&&_}
+use mathlib.Core.List.{List, [], _∷_, _++_}
 use lib.ListN.{length}
 use lib.Seq.{sets}
 use lib.Dec.{leb}
-use Rattle.marker.specs.Scan.{scan}
-use Rattle.marker.specs.Listing.{row, spanRows, regionRows, problemRows}
+use Rattle.text.specs.Bytes.{part}
+use Rattle.marker.specs.Listing.{row}
 use Rattle.marker.specs.declared.event.Span.{Span}
 use Rattle.marker.specs.declared.event.Region.{Region}
 use Rattle.marker.specs.declared.event.Event.{Event}
@@ -47,10 +47,28 @@ unfoldable pub written : List Event → Sheet → Sheet
 written [] t = t
 written (e ∷ es) t = written es (write e t)
 
--- how long the rows of each kind are
-abbrev pub lengthsOf : List ℕ → Places
-lengthsOf s = record {
-  spans = add 0 (length (spanRows (scan s)));
-  regions = add 0 (length (regionRows (scan s)));
-  problems = add 0 (length (problemRows (scan s)));
+-- each place of p is at most that of q
+pub record Ordered (p q : Places) : Type 0 where
+  pub spans : p .spans ≤ q .spans
+  pub regions : p .regions ≤ q .regions
+  pub problems : p .problems ≤ q .problems
+
+-- how far each place moved on
+abbrev pub between : Places → Places → Places
+between p q = record {
+  spans = q .spans - p .spans;
+  regions = q .regions - p .regions;
+  problems = q .problems - p .problems;
 }
+
+-- the places of rows of these lengths, one kind directly behind the other
+abbrev pub packed : Places → Places
+packed n = record { spans = 0; regions = n .spans; problems = add (n .spans) (n .regions) }
+
+-- rows that start at p and end at q: whether each kind ends before the next starts, in a buffer of so many bytes
+abbrev pub inZones : Places → Places → ℕ → Bool
+inZones p q room = (leb (q .spans) (p .regions) && leb (q .regions) (p .problems)) && leb (q .problems) room
+
+-- those rows, one kind directly behind the other
+abbrev pub zoneRows : Places → Places → List ℕ → List ℕ
+zoneRows p q b = part (p .spans) (q .spans) b ++ (part (p .regions) (q .regions) b ++ part (p .problems) (q .problems) b)

@@ -3,10 +3,8 @@ ghost use mathlib.Core.Path.{_≡_};
 ghost use mathlib.Core.List.{map};
 ghost use Prim.Native.Nat.{_+_, _<_, _^_};
 ghost use lib.ListN.{length};
-ghost use Rattle.text.specs.Ascii.{wideLine};
 ghost use Rattle.marker.specs.Scan.{readLine, spanEvents, closedBy, kindAt, eventsOf, lastOf, unclosed as unclosedBy, scan as scanOf};
-ghost use Rattle.marker.specs.Sheet.{sheet, written, lengthsOf};
-ghost use Rattle.marker.specs.ScanCall.{answerOf, outputOf};
+ghost use Rattle.marker.specs.Sheet.{sheet, written};
 use crate::event::Event;
 use crate::event::Part;
 use crate::event::Span;
@@ -21,9 +19,6 @@ use crate::span::Stop;
 use crate::state;
 use crate::state::OpenRegion;
 use crate::state::State;
-use answer::Answer;
-use answer::Place;
-use answer::Refusal;
 
 // The places after the spans of a line, and how their reading stopped.
 pub struct Spans {
@@ -166,7 +161,7 @@ fn put_last(state: State, last: usize, out: &mut [u8], at: Places) -> Places
 }
 
 // All that a scan of s finds.
-fn put_scan(s: &[u8], out: &mut [u8], at: Places) -> Places
+pub fn put_scan(s: &[u8], out: &mut [u8], at: Places) -> Places
     ensures { λ r. ⌜ sheet r (now (out .exit)) ≡ written (scanOf (now (s .entry))) (sheet at (now (out .entry))) ⌝ }
 {
     let mut to = at;
@@ -193,41 +188,4 @@ fn put_scan(s: &[u8], out: &mut [u8], at: Places) -> Places
             }
         }
     }
-}
-
-// The lengths of the rows of each kind, counted without a buffer.
-fn measure(s: &[u8]) -> Places
-    ensures { λ r. ⌜ r ≡ lengthsOf (now (s .entry)) ⌝ }
-{
-    let mut none = [0u8; 1];
-    let start = Places {
-        spans: 0,
-        regions: 0,
-        problems: 0,
-    };
-    put_scan(s, &mut none, start)
-}
-
-// Writes the listing of a text without wide bytes, if it fits.
-pub fn list(s: &[u8], out: &mut [u8]) -> Answer
-    requires { ⌜ wideLine 1 (now s) ≡ 0 ⌝ }
-    ensures { λ r. ⌜ r ≡ answerOf (length (now (out .entry))) (now (s .entry)) ⌝ }
-    ensures { λ r. ⌜ now (out .exit) ≡ outputOf r (now (s .entry)) (now (out .entry)) ⌝ }
-{
-    let m = measure(s);
-    let before_problems = listing::add(m.spans, m.regions);
-    let length = listing::add(before_problems, m.problems);
-    if length == 0 {
-        return Answer::Accepted { length, files: 0 };
-    }
-    if out.len() < length {
-        return Answer::Refused(Refusal::TextLimit(Place { file: 0, line: 0 }));
-    }
-    let start = Places {
-        spans: 0,
-        regions: m.spans,
-        problems: before_problems,
-    };
-    put_scan(s, out, start);
-    Answer::Accepted { length, files: 0 }
 }

@@ -9,6 +9,7 @@ use answer::Refusal;
 pub mod event;
 pub mod events;
 pub mod line;
+pub mod list;
 pub mod listing;
 pub mod region;
 pub mod seek;
@@ -24,5 +25,5 @@ pub fn scan(text: &[u8], out: &mut [u8]) -> Answer
     if n != 0 {
         return Answer::Refused(Refusal::WideByte(Place { file: 0, line: n }));
     }
-    events::list(text, out)
+    list::list(text, out)
 }
