@@ -16,6 +16,13 @@ const USAGE: &str = "usage: record FOLDER --examples FILE";
 const MOST_TEXT: usize = 16_384;
 const MOST_OUTPUT: usize = 65_536;
 
+/// An output with room to spare for the listing of a short text.
+const AMPLE: usize = 1_000;
+
+/// The named cases of docs/DIFFERENCES.md: a name, a tab and the text in each
+/// line that is no comment.
+const DIFFERENCES: &str = include_str!("../cases/differences.txt");
+
 /// Document 01's example (K1) and its listing.
 const K1: &str = "# Stage\n\
     Limit <!--[const:MAX]-->6 m<!--[/]-->.\n\
@@ -45,6 +52,31 @@ const PROBLEMS: [&str; 10] = [
 
 /// Shows after each line whether the scan is in a fence there.
 const MARKED_LINE: &str = "<!--[k]-->v<!--[/]-->\n";
+
+/// What opens a region; the last four are problem 3.
+const OPENERS: [&str; 11] = [
+    "<!--[fragment:a]-->",
+    "<!--[fragment:docs/steps.md]-->",
+    " <!--[fragment:a b]--> ",
+    "<!--[fragment:peer]-->",
+    "<!--[fragment:a:peer]-->",
+    "\t<!--[fragment:docs/steps.md:peer]-->\x0b",
+    "<!--[fragment:<!--[:peer]-->",
+    "<!--[fragment::peer]-->",
+    "<!--[fragment:a:peer:peer]-->",
+    "<!--[fragment:a]--> ]-->",
+    "- <!--[fragment:a]-->",
+];
+
+/// Lines in and between regions, with what does not open or close one.
+const BODIES: [&str; 12] = [
+    "text", "", "# Heading", "Limit <!--[const:MAX]-->6 m<!--[/]-->.", "<!--[k]--><!--[/]-->",
+    "<!--[k]-->v", "text <!--[/]-->", "<!--[/]--> <!--[/]-->", "```\n<!--[/]-->\n```",
+    "~~~\n<!--[fragment:a]-->\n~~~", "<!--[fragment:b]-->", " <!--[fragment:b:peer]-->",
+];
+
+const CLOSERS: [&str; 5] =
+    ["<!--[/]-->", "<!--[/]-->", " \t<!--[/]-->", "<!--[/]-->\x0c ", "\r<!--[/]-->\x0b"];
 
 /// What `replay` reads and what it has to print.
 #[derive(Default)]
@@ -111,15 +143,87 @@ fn add_commonmark(examples: &str, cases: &mut Cases) -> Option<()> {
         let marked: String =
             markdown.split_inclusive('\n').map(|line| line.to_string() + MARKED_LINE).collect();
         for text in [markdown, &marked] {
-            cases.add(text.as_bytes(), 1_000);
+            cases.add(text.as_bytes(), AMPLE);
         }
     }
     Some(())
 }
 
+fn add_differences(cases: &mut Cases) -> Option<()> {
+    for line in DIFFERENCES.lines().filter(|line| !line.starts_with('#')) {
+        let (_, text) = line.split_once('\t')?;
+        cases.add(&unescaped(text)?, AMPLE);
+    }
+    Some(())
+}
+
+/// The bytes of a text in which `\n`, `\t`, `\r`, `\\` and `\xNN` stand for one
+/// byte each, or nothing where another escape stands in it.
+fn unescaped(text: &str) -> Option<Vec<u8>> {
+    let mut from = text.bytes();
+    let mut bytes = Vec::new();
+    while let Some(byte) = from.next() {
+        bytes.push(match byte {
+            b'\\' => match from.next()? {
+                b'n' => b'\n',
+                b't' => b'\t',
+                b'r' => b'\r',
+                b'\\' => b'\\',
+                b'x' => hex_digit(from.next()?)? * 16 + hex_digit(from.next()?)?,
+                _ => return None,
+            },
+            plain => plain,
+        });
+    }
+    Some(bytes)
+}
+
+fn hex_digit(byte: u8) -> Option<u8> {
+    Some(char::from(byte).to_digit(16)? as u8)
+}
+
+/// A few regions and what stands between them; now and then one is not closed.
+fn regions(random: &mut Random) -> Vec<u8> {
+    let mut lines = Vec::new();
+    for _ in 0..random.within(1, 4) {
+        bodies(1, random, &mut lines);
+        lines.push(random.pick(&OPENERS));
+        bodies(3, random, &mut lines);
+        if !random.one_in(6) {
+            lines.push(random.pick(&CLOSERS));
+        }
+    }
+    let mut text = lines.join(random.pick(&["\n", "\n", "\r\n"]));
+    text.push_str(random.pick(&["", "\n", "\r\n", "\r"]));
+    text.into_bytes()
+}
+
+fn bodies(most: usize, random: &mut Random, lines: &mut Vec<&str>) {
+    for _ in 0..random.within(0, most) {
+        lines.push(random.pick(&BODIES));
+    }
+}
+
+/// Many rows, of each kind by itself and of all together: with exactly enough
+/// room and with one byte too little.
+fn add_many_rows(cases: &mut Cases, random: &mut Random) {
+    let mut mixed = Vec::new();
+    while mixed.len() < 9_000 {
+        mixed.extend(regions(random));
+    }
+    let spans = MARKED_LINE.repeat(60).into_bytes();
+    let closed = b"<!--[fragment:a]-->\n<!--[/]-->\n".repeat(12);
+    let problems = b"<!--[\n".repeat(1_400);
+    for text in [spans, closed, problems, mixed] {
+        let full = Expected::of(&text).full_size();
+        cases.add(&text, full);
+        cases.add(&text, full - 1);
+    }
+}
+
 fn add_generated(cases: &mut Cases) {
     let mut random = Random::new(1);
-    for kind in [marked, straddling, damaged] {
+    for kind in [regions, marked, straddling, damaged] {
         for _ in 0..60 {
             let text = kind(&mut random);
             if text.len() <= 800 {
@@ -127,6 +231,7 @@ fn add_generated(cases: &mut Cases) {
             }
         }
     }
+    add_many_rows(cases, &mut random);
     cases.add_twice(&notes(4_000, &mut random), &mut random);
     cases.add(&marker_in_each_line(MOST_TEXT), MOST_OUTPUT);
 }
@@ -143,6 +248,7 @@ fn main() -> std::io::Result<()> {
     let mut cases = Cases::default();
     add_document_examples(&mut cases);
     add_commonmark(&fs::read_to_string(examples)?, &mut cases).expect("a list of examples");
+    add_differences(&mut cases).expect("a list of named cases");
     add_generated(&mut cases);
     fs::write(Path::new(folder).join("stdin"), cases.stdin)?;
     fs::write(Path::new(folder).join("stdout"), cases.stdout)

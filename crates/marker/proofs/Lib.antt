@@ -4,4 +4,5 @@ pub mod SheetLaws
 pub mod ScanLaws
 pub mod RegionLaws
 pub mod CallLaws
-pub mod ListLaws
+pub mod ListingLaws
+pub mod Checks

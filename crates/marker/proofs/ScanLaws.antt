@@ -21,7 +21,7 @@ use Rattle.marker.specs.declared.event.Event.{Event}
 use Rattle.marker.specs.declared.event.Event.the-variants.{OfSpan, OfRegion, OfProblem}
 use Rattle.marker.specs.declared.line.Kind.{Kind}
 use Rattle.marker.specs.declared.line.Kind.the-variants.{Plain, Fence, Fault, Closes, Opens, Spans}
-use Rattle.marker.specs.declared.listing.Places.{Places}
+use Rattle.marker.specs.declared.row.Places.{Places}
 use Rattle.marker.specs.declared.seek.Seek.the-variants.{LineAt, TextEnd}
 use Rattle.marker.specs.declared.span.Mark.{Mark}
 use Rattle.marker.specs.declared.span.Mark.the-variants.{Marked, Problem, End}

@@ -17,7 +17,7 @@ use Rattle.marker.specs.Listing.{cells, rowOf, row, spanRows, regionRows
 use Rattle.marker.specs.Sheet.{zoneRows, TOP, add, putAt, Sheet, sheet, write, written}
 use Rattle.marker.specs.declared.event.Event.{Event}
 use Rattle.marker.specs.declared.event.Event.the-variants.{OfSpan, OfRegion, OfProblem}
-use Rattle.marker.specs.declared.listing.Places.{Places}
+use Rattle.marker.specs.declared.row.Places.{Places}
 
 -- the first k fields from field i on, and past them
 cells-more : (fields : List ℕ) (k i : ℕ) → i < k → k ≤ length fields

@@ -11,7 +11,7 @@ use Rattle.marker.specs.declared.event.Span.{Span}
 use Rattle.marker.specs.declared.event.Region.{Region}
 use Rattle.marker.specs.declared.event.Event.{Event}
 use Rattle.marker.specs.declared.event.Event.the-variants.{OfSpan, OfRegion, OfProblem}
-use Rattle.marker.specs.declared.listing.Places.{Places}
+use Rattle.marker.specs.declared.row.Places.{Places}
 
 -- the largest place, at which places stop counting
 abbrev pub TOP : ℕ

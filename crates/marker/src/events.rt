@@ -9,8 +9,8 @@ use crate::event::Event;
 use crate::event::Part;
 use crate::event::Span;
 use crate::line::Kind;
-use crate::listing;
-use crate::listing::Places;
+use crate::row;
+use crate::row::Places;
 use crate::seek;
 use crate::seek::Seek;
 use crate::span;
@@ -54,7 +54,7 @@ fn put_spans(line: &[u8], o: usize, n: usize, out: &mut [u8], at: Places) -> Spa
                         end: text_end,
                     },
                 };
-                to = listing::put(out, to, Event::OfSpan(x));
+                to = row::put(out, to, Event::OfSpan(x));
                 i = text_end + 10 - o;
             }
             Mark::Problem(k) => {
@@ -82,7 +82,7 @@ fn put_marked(line: &[u8], o: usize, n: usize, out: &mut [u8], at: Places) -> Pl
     let to = spans.at;
     let stop = spans.stop;
     match stop {
-        Stop::AtProblem(number) => listing::put(out, to, Event::OfProblem { line: n, number }),
+        Stop::AtProblem(number) => row::put(out, to, Event::OfProblem { line: n, number }),
         Stop::AtSpanEnd(_) => to,
     }
 }
@@ -93,7 +93,7 @@ fn put_closed(region: OpenRegion, n: usize, o: usize, out: &mut [u8], at: Places
 {
     match region {
         OpenRegion::Closed => at,
-        OpenRegion::Open(g) => listing::put(out, at, Event::OfRegion(state::closed(g, n, o))),
+        OpenRegion::Open(g) => row::put(out, at, Event::OfRegion(state::closed(g, n, o))),
     }
 }
 
@@ -113,7 +113,7 @@ fn put_line(
     match kind {
         Kind::Plain => at,
         Kind::Fence => at,
-        Kind::Fault(number) => listing::put(out, at, Event::OfProblem { line: n, number }),
+        Kind::Fault(number) => row::put(out, at, Event::OfProblem { line: n, number }),
         Kind::Closes => {
             let region = state.region;
             put_closed(region, n, o, out, at)
@@ -136,7 +136,7 @@ fn put_unclosed(region: OpenRegion, out: &mut [u8], at: Places) -> Places
         OpenRegion::Open(g) => {
             let marker = g.marker;
             let line = marker.line;
-            listing::put(out, at, Event::OfProblem { line, number: 4 })
+            row::put(out, at, Event::OfProblem { line, number: 4 })
         }
     }
 }
@@ -148,7 +148,7 @@ fn put_last(state: State, last: usize, out: &mut [u8], at: Places) -> Places
     let region = state.region;
     let to = put_unclosed(region, out, at);
     if state.fence {
-        return listing::put(
+        return row::put(
             out,
             to,
             Event::OfProblem {

@@ -9,9 +9,9 @@ use answer::Refusal;
 pub mod event;
 pub mod events;
 pub mod line;
-pub mod list;
 pub mod listing;
 pub mod region;
+pub mod row;
 pub mod seek;
 pub mod span;
 pub mod state;
@@ -25,5 +25,5 @@ pub fn scan(text: &[u8], out: &mut [u8]) -> Answer
     if n != 0 {
         return Answer::Refused(Refusal::WideByte(Place { file: 0, line: n }));
     }
-    list::list(text, out)
+    listing::list(text, out)
 }

@@ -1,113 +1,113 @@
-// The rows of a listing, written into one buffer at three places, one a kind.
+// The listing of a text in an output, or nothing of it. The rows are first written into a buffer of our own, where each kind has a zone;
+// what does not fit there is only measured, and then the scan is made again into the output.
 ghost use mathlib.Core.Path.{_≡_};
-ghost use Prim.Native.Nat.{_+_, _≤_};
-ghost use lib.ListN.{length, take};
+ghost use mathlib.Core.List.{_++_};
+ghost use Prim.Native.Nat.{_+_, _-_, _≤_};
+ghost use lib.ListN.{length};
 ghost use lib.Seq.{sets};
-ghost use Rattle.marker.specs.Listing.{rowOf, flag as flagOf};
-ghost use Rattle.marker.specs.Sheet.{add as addTo, putAt, sheet, write};
-use crate::event::Event;
+ghost use Rattle.text.specs.Bytes.{part};
+ghost use Rattle.text.specs.Ascii.{wideLine};
+ghost use Rattle.marker.specs.Sheet.{Ordered, between, packed as packedOf, inZones, zoneRows};
+ghost use Rattle.marker.specs.ScanCall.{answerOf, outputOf};
+use crate::events;
+use crate::row;
+use crate::row::Places;
+use answer::Answer;
+use answer::Place;
+use answer::Refusal;
 use text::buffer;
-use text::decimal;
 
-// Where the next span, region and problem go.
-pub struct Places {
-    pub spans: usize,
-    pub regions: usize,
-    pub problems: usize,
-}
-
-const TOP: usize = 18446744073709551615;
-
-// The sum, or the largest number where it is larger.
-pub fn add(a: usize, n: usize) -> usize
-    ensures { λ r. ⌜ r ≡ addTo a n ⌝ }
+// The zones of a buffer of so many bytes: most of it is for spans.
+fn zones(room: usize) -> Places
+    ensures { λ r. ⌜ (r .spans ≡ 0) × ((r .regions ≤ r .problems) × (r .problems ≤ room)) ⌝ }
 {
-    if n <= TOP - a { a + n } else { TOP }
-}
-
-fn flag(b: bool) -> usize
-    ensures { λ r. ⌜ r ≡ flagOf b ⌝ }
-{
-    if b { 1 } else { 0 }
-}
-
-// How long the row of a word and the first k fields is.
-fn row_length(word: &[u8], fields: [usize; 5], k: usize) -> usize
-    requires { ⌜ (length (now word) ≤ 7) × (k ≤ 5) ⌝ }
-    ensures { λ r. ⌜ r ≡ length (rowOf (now (word .entry)) (take k fields)) ⌝ }
-{
-    let mut n = word.len() + 1;
-    let mut i = 0;
-    while i < k {
-        n += 1 + decimal::digits(fields[i]);
-        i += 1;
+    let zone = room / 16;
+    Places {
+        spans: 0,
+        regions: zone * 12,
+        problems: zone * 15,
     }
-    n
 }
 
-// Writes that row at a place where it fits, and answers the place after it.
-fn write_row(out: &mut [u8], at: usize, word: &[u8], fields: [usize; 5], k: usize) -> usize
-    requires { ⌜ (k ≤ 5) × (at + length (rowOf (now word) (take k fields)) ≤ length (now out)) ⌝ }
-    ensures { λ r. ⌜ (now (out .exit) ≡ sets (now (out .entry)) at (rowOf (now (word .entry)) (take k fields))) × (r ≡ at + length (rowOf (now (word .entry)) (take k fields))) ⌝ }
+// How far each place moved on.
+fn lengths(start: Places, end: Places) -> Places
+    requires { ⌜ Ordered start end ⌝ }
+    ensures { λ r. ⌜ r ≡ between start end ⌝ }
 {
-    let mut t = buffer::copy(word, out, at);
-    let mut i = 0;
-    while i < k {
-        out[t] = b'\t';
-        t = decimal::put(out, t + 1, fields[i]);
-        i += 1;
+    Places {
+        spans: end.spans - start.spans,
+        regions: end.regions - start.regions,
+        problems: end.problems - start.problems,
     }
-    out[t] = b'\n';
-    t + 1
 }
 
-// Writes that row at a place if it fits there, and answers the place after it.
-fn put_row(out: &mut [u8], at: usize, word: &[u8], fields: [usize; 5], k: usize) -> usize
-    requires { ⌜ (length (now word) ≤ 7) × (k ≤ 5) ⌝ }
-    ensures { λ r. ⌜ (now (out .exit) ≡ putAt at (rowOf (now (word .entry)) (take k fields)) (now (out .entry))) × (r ≡ addTo at (length (rowOf (now (word .entry)) (take k fields)))) ⌝ }
+// The places of rows of these lengths, one kind directly behind the other.
+fn packed(lengths: Places) -> Places
+    ensures { λ r. ⌜ r ≡ packedOf lengths ⌝ }
 {
-    let n = row_length(word, fields, k);
-    if n <= out.len() {
-        if at <= out.len() - n {
-            return write_row(out, at, word, fields, k);
-        }
+    Places {
+        spans: 0,
+        regions: lengths.spans,
+        problems: row::add(lengths.spans, lengths.regions),
     }
-    add(at, n)
 }
 
-// Writes the row of an event at its kind's place if it fits there, and answers the places after it.
-pub fn put(out: &mut [u8], at: Places, event: Event) -> Places
-    ensures { λ r. ⌜ sheet r (now (out .exit)) ≡ write event (sheet at (now (out .entry))) ⌝ }
+// Whether each kind's rows ended within its zone.
+fn in_zones(start: Places, end: Places, room: usize) -> bool
+    ensures { λ r. ⌜ r ≡ inZones start end room ⌝ }
 {
-    match event {
-        Event::OfSpan(x) => {
-            let spec = x.spec;
-            let text = x.text;
-            let fields = [x.line, spec.start, spec.end, text.start, text.end];
-            Places {
-                spans: put_row(out, at.spans, b"span", fields, 5),
-                regions: at.regions,
-                problems: at.problems,
-            }
-        }
-        Event::OfRegion(g) => {
-            let opener = g.opener;
-            let closer = g.closer;
-            let path = g.path;
-            let fields = [opener.line, closer.line, path.start, path.end, flag(g.peer)];
-            Places {
-                spans: at.spans,
-                regions: put_row(out, at.regions, b"region", fields, 5),
-                problems: at.problems,
-            }
-        }
-        Event::OfProblem { line, number } => {
-            let fields = [line, number, 0, 0, 0];
-            Places {
-                spans: at.spans,
-                regions: at.regions,
-                problems: put_row(out, at.problems, b"problem", fields, 2),
-            }
-        }
+    (end.spans <= start.regions) & (end.regions <= start.problems) & (end.problems <= room)
+}
+
+// Copies the rows of the three zones to the front of an output, one kind directly behind the other.
+fn copy_zones(rows: &[u8], start: Places, end: Places, out: &mut [u8])
+    requires { ⌜ Ordered start end × ((end .spans ≤ length (now rows)) × ((end .regions ≤ length (now rows)) × (end .problems ≤ length (now rows)))) ⌝ }
+    requires { ⌜ (end .spans - start .spans) + ((end .regions - start .regions) + (end .problems - start .problems)) ≤ length (now out) ⌝ }
+    ensures { λ _. ⌜ now (out .exit) ≡ sets (now (out .entry)) 0 (zoneRows start end (now (rows .entry))) ⌝ }
+{
+    let a = start.spans;
+    let b = end.spans;
+    let n = buffer::copy(&rows[a..b], out, 0);
+    let c = start.regions;
+    let d = end.regions;
+    let m = buffer::copy(&rows[c..d], out, n);
+    let e = start.problems;
+    let f = end.problems;
+    buffer::copy(&rows[e..f], out, m);
+}
+
+// Writes the listing of a text without wide bytes, if it fits, with a buffer lent for the rows.
+fn list_with(s: &[u8], rows: &mut [u8], out: &mut [u8]) -> Answer
+    requires { ⌜ wideLine 1 (now s) ≡ 0 ⌝ }
+    ensures { λ r. ⌜ r ≡ answerOf (length (now (out .entry))) (now (s .entry)) ⌝ }
+    ensures { λ r. ⌜ now (out .exit) ≡ outputOf r (now (s .entry)) (now (out .entry)) ⌝ }
+{
+    let start = zones(rows.len());
+    let end = events::put_scan(s, rows, start);
+    let counted = lengths(start, end);
+    let places = packed(counted);
+    let length = row::add(places.problems, counted.problems);
+    if out.len() < length {
+        return Answer::Refused(Refusal::TextLimit(Place { file: 0, line: 0 }));
     }
+    if in_zones(start, end, rows.len()) {
+        copy_zones(rows, start, end, out);
+        return Answer::Accepted { length, files: 0 };
+    }
+    events::put_scan(s, out, places);
+    Answer::Accepted { length, files: 0 }
+}
+
+// Writes the listing of a text without wide bytes, if it fits. A short text is not worth the clearing of a large buffer.
+pub fn list(s: &[u8], out: &mut [u8]) -> Answer
+    requires { ⌜ wideLine 1 (now s) ≡ 0 ⌝ }
+    ensures { λ r. ⌜ r ≡ answerOf (length (now (out .entry))) (now (s .entry)) ⌝ }
+    ensures { λ r. ⌜ now (out .exit) ≡ outputOf r (now (s .entry)) (now (out .entry)) ⌝ }
+{
+    if s.len() < 8192 {
+        let mut rows = [0u8; 1024];
+        return list_with(s, &mut rows, out);
+    }
+    let mut rows = [0u8; 131072];
+    list_with(s, &mut rows, out)
 }

@@ -1,0 +1,25 @@
+-- Document 01, "Gauging checks", on the definitions: K1 and K6. Assumes nothing.
+use mathlib.Core.Path.{_≡_, refl}
+use mathlib.Core.List.{List, [], _∷_, _++_}
+use Prim.Native.Nat.{ℕ}
+use Prim.Native.String.{String}
+use Rattle.text.specs.Bytes.{first, afterLast}
+use Rattle.text.specs.Pattern.{bytes, startsWith, endsWith, equals, find}
+use Rattle.text.specs.Space.{isSpace, lead, kept, trimStart, trimEnd, trim}
+use Rattle.text.specs.Lines.{breaks, linesFrom}
+use Rattle.text.specs.Decimal.{digits, decimal}
+use Rattle.marker.specs.Marker.{isFence, pathOf, namedOf, restOf, aloneOf, fragmentOf, textOf, specOf, markOf, firstOf, nextMark, fragmentKind, markedKind, kindOf}
+use Rattle.marker.specs.Scan.{readBy, readFrom, readLine, spanEvents, eventsOf, after, kindAt, lastOf, scanFrom, scan}
+use Rattle.marker.specs.Listing.{cells, row, spanRows, regionRows, problemRows, listing}
+
+-- the document's example of a listing's input and output
+abbrev pub stage : String
+stage = "# Stage\nLimit <!--[const:MAX]-->6 m<!--[/]-->.\n<!--[fragment:a.md:peer]-->\nold\n<!--[/]-->\n<!--[/]-->\n"
+
+abbrev pub rows : String
+rows = "span\t2\t19\t28\t32\t35\nregion\t3\t5\t61\t65\t1\nproblem\t6\t6\n"
+
+-- K1 this listing; K6 `<!--[fragment:a:b]-->`: problem 3
+pub checks : (listing (bytes stage) ≡ bytes rows) × (listing (bytes "<!--[fragment:a:b]-->") ≡ bytes "problem\t1\t3\n")
+unfolding first afterLast startsWith endsWith equals find isSpace lead kept trimStart trimEnd trim breaks linesFrom digits decimal isFence pathOf namedOf restOf aloneOf fragmentOf textOf specOf markOf firstOf nextMark fragmentKind markedKind kindOf readBy readFrom readLine spanEvents eventsOf after kindAt lastOf scanFrom scan cells row spanRows regionRows problemRows listing
+checks = (refl, refl)

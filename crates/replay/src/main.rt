@@ -1,0 +1,86 @@
+// Scans the stored cases of standard input and prints each answer: the six numbers, then the listing if the text was accepted.
+ghost use mathlib.Core.Path.{_≡_};
+ghost use Prim.Native.Nat.{_≤_};
+ghost use lib.ListN.{length};
+use answer::Answer;
+use header::Header;
+use libc::STDIN_FILENO;
+use libc::STDOUT_FILENO;
+
+mod header;
+
+// The loop over the cases has to end, and nothing says that the input does.
+const MOST_CASES: usize = 100_000;
+
+fn print_tabbed(number: u64) {
+    io::write_all(STDOUT_FILENO, b"\t");
+    io::print_decimal(STDOUT_FILENO, number);
+}
+
+// The numbers with tabs between them, and LF.
+fn print_numbers(numbers: [u64; 6]) {
+    io::print_decimal(STDOUT_FILENO, numbers[0]);
+    for i in 1..6 {
+        print_tabbed(numbers[i]);
+    }
+    io::write_all(STDOUT_FILENO, b"\n");
+}
+
+// Writes that the input is damaged. Nothing is read after that.
+fn print_ill_formed() {
+    io::write_all(STDOUT_FILENO, b"ill formed\n");
+}
+
+// Zeros for a text. The `ensures` gives only the length, which lending a part of it needs.
+fn text_buffer() -> [u8; 16384]
+    ensures { λ r. ⌜ 16384 ≡ length r ⌝ }
+{
+    [0; 16384]
+}
+
+// Fills the text from the input, scans it and prints the answer. Answers whether all of the text was there.
+fn replay_text(text: &mut [u8], out: &mut [u8]) -> bool {
+    let n = io::read_full(STDIN_FILENO, text);
+    if n < text.len() {
+        print_ill_formed();
+        return false;
+    }
+    let a = marker::scan(text, out);
+    print_numbers(answer::numbers(a));
+    if let Answer::Accepted { length, files: _ } = a {
+        io::write_all(STDOUT_FILENO, &out[..length]);
+    }
+    true
+}
+
+// A case with a text of so many bytes, scanned into an output of `room` zeros.
+fn replay_case(length: usize, room: usize) -> bool
+    requires { ⌜ (length ≤ 16384) × (room ≤ 65536) ⌝ }
+{
+    let mut text = text_buffer();
+    let mut out = io::large_buffer();
+    replay_text(&mut text[..length], &mut out[..room])
+}
+
+// Reads a header and replays its case. Answers whether to go on: not at the input's end or after an ill-formed case.
+fn replay_next() -> bool {
+    let mut bytes = [0u8; 14];
+    let n = io::read_full(STDIN_FILENO, &mut bytes);
+    if n < 14 {
+        return false;
+    }
+    match header::parse(bytes) {
+        Header::Case { length, room } => replay_case(length, room),
+        Header::IllFormed => {
+            print_ill_formed();
+            false
+        }
+    }
+}
+
+fn main() {
+    let mut left = MOST_CASES;
+    while 0 < left && replay_next() {
+        left -= 1;
+    }
+}
