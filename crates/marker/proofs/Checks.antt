@@ -1,7 +1,5 @@
 -- Document 01, "Gauging checks", on the definitions: K1 and K6. Assumes nothing.
 use mathlib.Core.Path.{_≡_, refl}
-use mathlib.Core.List.{List, [], _∷_, _++_}
-use Prim.Native.Nat.{ℕ}
 use Prim.Native.String.{String}
 use Rattle.text.specs.Bytes.{first, afterLast}
 use Rattle.text.specs.Pattern.{bytes, startsWith, endsWith, equals, find}

@@ -1,8 +1,8 @@
 -- Laws for `marker::listing`: what a scan written into zones of a buffer tells of the listing. Assumes nothing.
 use Prim.Native.Nat.{ℕ, _+_, _-_, _≤_, _<_, _^_, min}
 use native.Mathlib.Omega.{arith}
-use mathlib.Core.Path.{_≡_, refl, sym, ap, _∙_}
-use mathlib.Core.Bool.{Bool, true, _&&_}
+use mathlib.Core.Path.{_≡_, ap, _∙_}
+use mathlib.Core.Bool.{true, _&&_}
 use mathlib.Core.List.{List, _++_}
 use lib.ListN.{length, drop}
 use lib.Dec.{leb}
@@ -12,7 +12,7 @@ use Rattle.marker.specs.Scan.{scan}
 use Rattle.marker.specs.Listing.{spanRows, regionRows, problemRows, listing}
 use Rattle.marker.specs.Sheet.{TOP, add, Sheet, sheet, written, Ordered, between, packed, inZones, zoneRows}
 use Rattle.marker.specs.declared.row.Places.{Places}
-use Rattle.marker.proofs.SheetLaws.{places, moved, listing-length, listed, zoned, front}
+use Rattle.marker.proofs.SheetLaws.{places, moved, listing-length, listed, zoned}
 
 -- sums that stop at TOP, and those that did not
 sum-le : (a b c n : ℕ) → n ≡ add (add a b) c → n ≤ a + (b + c)

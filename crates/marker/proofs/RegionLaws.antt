@@ -1,13 +1,13 @@
 -- Laws of `specs/Regions.antt`: the regions among what a scan finds, line by line. Assumes nothing.
-use Prim.Native.Nat.{ℕ, _+_, _≤_, _<_}
+use Prim.Native.Nat.{ℕ, _+_, _≤_}
 use native.Mathlib.Omega.{arith}
 use mathlib.Core.Path.{_≡_, refl, sym, ap, _∙_}
 use mathlib.Core.Bool.{Bool, true, false, false≢true}
 use mathlib.Core.List.{List, [], _∷_, _++_, map}
-use lib.ListN.{length, drop}
+use lib.ListN.{drop}
 use Rattle.text.specs.Bytes.{part}
 use Rattle.text.specs.Lines.{linesFrom}
-use Rattle.marker.specs.Scan.{readLine, stopEvents, spanEvents, closedBy, eventsOf, after, kindAt, isOpen, unclosed, lastOf, begin, scanFrom, regionsOf}
+use Rattle.marker.specs.Scan.{readLine, stopEvents, spanEvents, eventsOf, after, kindAt, isOpen, lastOf, scanFrom, regionsOf}
 use Rattle.marker.specs.Regions.{regionsFrom, Next, closedAt}
 use Rattle.marker.specs.Skip.{Sought}
 use Rattle.marker.specs.declared.event.Event.{Event}

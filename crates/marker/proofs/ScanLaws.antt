@@ -3,7 +3,7 @@ use Prim.Native.Nat.{ℕ, zero, suc, _+_, _-_, _≤_, _<_}
 use native.Mathlib.Nat.{add-zero}
 use native.Mathlib.Omega.{arith}
 use mathlib.Core.Path.{_≡_, refl, sym, ap, _∙_}
-use mathlib.Core.Bool.{Bool, true, false, not, _&&_, false≢true}
+use mathlib.Core.Bool.{true, false, not, _&&_}
 use mathlib.Core.List.{List, [], _∷_, _++_, append-nil, map}
 use lib.ListN.{length, drop, length-drop, drop-of-length-le}
 use lib.Seq.{drop-drop}
@@ -13,15 +13,14 @@ use Rattle.text.specs.Pattern.{startsWith, find, contains}
 use Rattle.text.specs.Lines.{Line, linesFrom}
 use Rattle.text.proofs.BytesLaws.{rest, rest-length}
 use Rattle.text.proofs.PatternLaws.{and-left, and-right}
-use Rattle.marker.specs.Marker.{isFence, OPEN, kindOf, nextMark, firstOf}
-use Rattle.marker.specs.Scan.{Reading, readBy, readFrom, readLine, spanEvents, thenRead, eventsOf, after, kindAt, isOpen, unclosed, lastOf, scanFrom, scan, spanOf, stopped}
-use Rattle.marker.specs.Skip.{allPlain, Skipped, Sought}
-use Rattle.marker.specs.Sheet.{Sheet, sheet, write, written}
+use Rattle.marker.specs.Marker.{isFence, OPEN, nextMark, firstOf}
+use Rattle.marker.specs.Scan.{Reading, readBy, readFrom, readLine, spanEvents, thenRead, eventsOf, after, kindAt, isOpen, unclosed, lastOf, scanFrom, spanOf, stopped}
+use Rattle.marker.specs.Skip.{allPlain, Sought}
+use Rattle.marker.specs.Sheet.{Sheet, write, written}
 use Rattle.marker.specs.declared.event.Event.{Event}
-use Rattle.marker.specs.declared.event.Event.the-variants.{OfSpan, OfRegion, OfProblem}
+use Rattle.marker.specs.declared.event.Event.the-variants.{OfSpan, OfProblem}
 use Rattle.marker.specs.declared.line.Kind.{Kind}
-use Rattle.marker.specs.declared.line.Kind.the-variants.{Plain, Fence, Fault, Closes, Opens, Spans}
-use Rattle.marker.specs.declared.row.Places.{Places}
+use Rattle.marker.specs.declared.line.Kind.the-variants.{Spans}
 use Rattle.marker.specs.declared.seek.Seek.the-variants.{LineAt, TextEnd}
 use Rattle.marker.specs.declared.span.Mark.{Mark}
 use Rattle.marker.specs.declared.span.Mark.the-variants.{Marked, Problem, End}

@@ -1,6 +1,6 @@
 -- Laws of `specs/Listing.antt` and `specs/Sheet.antt`: a row's fields one after the other, events written one after the other, the places that they move on to,
 -- and the listing that they leave. Assumes nothing.
-use Prim.Native.Nat.{ℕ, suc, _+_, _≤_, _<_, min}
+use Prim.Native.Nat.{ℕ, suc, _+_, _≤_, _<_}
 use native.Mathlib.Nat.{zero-add}
 use native.Mathlib.Numerals.{add-one}
 use native.Mathlib.Omega.{arith}
@@ -55,10 +55,6 @@ put-fitting a b out h = rw (le-leb (a + length b) (length out) h)
 
 pub put-past : (a : ℕ) (b out : List ℕ) → length out < a + length b → putAt a b out ≡ out
 put-past a b out h = rw (lt-leb (a + length b) (length out) h)
-
-pub written-one : (e : Event) (t : Sheet) → written (e ∷ []) t ≡ write e t
-unfolding written
-written-one e t = refl
 
 pub written-append : (a b : List Event) (t : Sheet) → written (a ++ b) t ≡ written b (written a t)
 unfolding written

@@ -1,7 +1,7 @@
 -- Document 01, "Marker scan", for one line: fences, fragment markers, spans, and what a line is. A line is a list of bytes; o is the place of its first byte.
-use Prim.Native.Nat.{ℕ, zero, suc, _+_, _-_}
+use Prim.Native.Nat.{ℕ, _+_, _-_}
 use mathlib.Core.Bool.{Bool, true, false, cond, _&&_, _||_}
-use mathlib.Core.List.{List, [], _∷_}
+use mathlib.Core.List.{List}
 use lib.ListN.{length, take, drop}
 use lib.Dec.{eqb}
 use Rattle.text.specs.Pattern.{bytes, startsWith, endsWith, equals, find, contains}

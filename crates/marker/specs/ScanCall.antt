@@ -1,7 +1,7 @@
 -- The scan call: what it answers, and the output after it.
 use Prim.Native.Nat.{ℕ}
-use mathlib.Core.Bool.{Bool, cond}
-use mathlib.Core.List.{List, [], _∷_, _++_}
+use mathlib.Core.Bool.{cond}
+use mathlib.Core.List.{List, _++_}
 use lib.ListN.{length, drop}
 use lib.Dec.{eqb, leb}
 use Rattle.text.specs.Ascii.{wideLine}

@@ -7,8 +7,6 @@ use lib.Seq.{sets}
 use lib.Dec.{leb}
 use Rattle.text.specs.Bytes.{part}
 use Rattle.marker.specs.Listing.{row}
-use Rattle.marker.specs.declared.event.Span.{Span}
-use Rattle.marker.specs.declared.event.Region.{Region}
 use Rattle.marker.specs.declared.event.Event.{Event}
 use Rattle.marker.specs.declared.event.Event.the-variants.{OfSpan, OfRegion, OfProblem}
 use Rattle.marker.specs.declared.row.Places.{Places}

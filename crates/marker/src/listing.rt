@@ -1,11 +1,9 @@
 // The listing of a text in an output, or nothing of it. The rows are first written into a buffer of our own, where each kind has a zone;
 // what does not fit there is only measured, and then the scan is made again into the output.
 ghost use mathlib.Core.Path.{_≡_};
-ghost use mathlib.Core.List.{_++_};
 ghost use Prim.Native.Nat.{_+_, _-_, _≤_};
 ghost use lib.ListN.{length};
 ghost use lib.Seq.{sets};
-ghost use Rattle.text.specs.Bytes.{part};
 ghost use Rattle.text.specs.Ascii.{wideLine};
 ghost use Rattle.marker.specs.Sheet.{Ordered, between, packed as packedOf, inZones, zoneRows};
 ghost use Rattle.marker.specs.ScanCall.{answerOf, outputOf};

@@ -8,7 +8,7 @@ use native.Mathlib.Omega.{arith}
 use mathlib.Core.Path.{_≡_, refl, sym, ap, _∙_}
 use mathlib.Core.Bool.{Bool, true, false, cond, _&&_, and-false}
 use mathlib.Core.List.{List, [], _∷_, _++_}
-use lib.ListN.{length, take, drop, getD, length-drop, length-take, drop-of-length-le, take-append-drop}
+use lib.ListN.{length, take, drop, getD, length-drop, length-take, take-append-drop}
 use lib.Seq.{drop-drop, take-all, take-length, take-take, length-take-le, getD-drop}
 use lib.Dec.{eqb}
 use borrow.Author.Tests.{eq-eqb, ne-eqb, eqb-true, eqb-false}
@@ -71,10 +71,6 @@ lines-at s i e n h p q =
     let k : e - i ≡ lineEnd (drop i s) = omega arith in
     lines-step (drop i s) i (omega (arith, length-drop i s)) ∙ rw (k, q, drop-drop)
 
-pub lines-none : (s : List ℕ) (i o : ℕ) → length s ≤ i → linesFrom o (drop i s) ≡ []
-unfolding linesFrom
-lines-none s i o h = rw (drop-of-length-le s h)
-
 -- the line's end and the next one's start are within the text, and the walk goes on
 pub line-within : (s : List ℕ) → (lineEnd s ≤ lineNext s) × ((lineNext s ≤ length s) × (0 < length s → 0 < lineNext s))
 unfolding lineEnd lineNext
@@ -97,17 +93,6 @@ line-next (x ∷ s) h = go (eqb x LF) (λ q. line-next s q) h
         → cond b 1 (suc (lineNext s)) ≡ suc (cond b 0 (suc (first (is LF) s)))
     go true ih q = refl
     go false ih q = ap suc (ih (omega arith))
-
--- and this one ends no later
-pub line-end-le : (s : List ℕ) → lineEnd s ≤ first (is LF) s
-unfolding first lineEnd
-line-end-le [] = zero-le
-line-end-le (x ∷ s) = go (eqb x LF) (breaks (x ∷ s)) (line-end-le s)
-  where
-    go : (a b : Bool) → lineEnd s ≤ first (is LF) s → cond a 0 (cond b 0 (suc (lineEnd s))) ≤ cond a 0 (suc (first (is LF) s))
-    go true b h = omega arith
-    go false true h = omega arith
-    go false false h = omega arith
 
 -- a CR stands before an LF where the first LF of what follows it is next
 breaks-yes : (x : ℕ) (s : List ℕ) → first (is LF) s ≡ 0 → 0 < length s → x ≡ CR → breaks (x ∷ s) ≡ true
@@ -403,18 +388,3 @@ pieces-at s i e k q = go (eqb e (length s)) refl
         let w : e - i ≡ first (is LF) (drop i s) = omega arith in
         let v : e + 1 ≡ i + suc (first (is LF) (drop i s)) = omega arith in
         pieces-step (drop i s) (omega (arith, length-drop i s)) ∙ rw (w, v, drop-drop)
-
--- one more than it has LFs
-onto-length : (x : ℕ) (l : List (List ℕ)) → length (onto x l) ≡ suc (length l - 1)
-onto-length x [] = refl
-onto-length x (y ∷ l) = omega arith
-
-pub pieces-length : (s : List ℕ) → length (pieces s) ≡ suc (count (is LF) s)
-unfolding pieces count
-pieces-length [] = refl
-pieces-length (x ∷ s) = go (eqb x LF) (pieces-length s)
-  where
-    go : (a : Bool) → length (pieces s) ≡ suc (count (is LF) s)
-        → length (cond a ([] ∷ pieces s) (onto x (pieces s))) ≡ suc (cond a (suc (count (is LF) s)) (count (is LF) s))
-    go true ih = ap suc ih
-    go false ih = omega (arith, onto-length x (pieces s))

@@ -1,21 +1,21 @@
 -- Laws of `specs/Pattern.antt`: patterns at the start of a text by its bytes, searches by their places, and what is found lies within.
 -- Assumes nothing.
-use Prim.Native.Nat.{ℕ, zero, suc, _+_, _-_, _≤_, _<_, zero-le}
+use Prim.Native.Nat.{ℕ, suc, _+_, _-_, _≤_, _<_, zero-le}
 use native.Mathlib.Nat.{add-zero, add-assoc, zero-add, not-suc-le-zero}
 use native.Mathlib.Numerals.{add-one, one-add}
 use native.Mathlib.Omega.{arith}
 use mathlib.Core.Path.{_≡_, refl, sym, ap, _∙_, subst}
-use mathlib.Core.Bool.{Bool, true, false, cond, _&&_, _||_, false≢true}
+use mathlib.Core.Bool.{Bool, true, false, cond, _&&_, false≢true}
 use mathlib.Core.List.{List, [], _∷_, _++_}
-use lib.ListN.{length, take, drop, getD, drop-of-length-le, length-drop}
-use lib.Seq.{drop-cons, drop-drop, take-nil}
+use lib.ListN.{length, drop, getD, drop-of-length-le, length-drop}
+use lib.Seq.{drop-cons, drop-drop}
 use lib.Dec.{eqb, leb}
 use borrow.Author.Tests.{eq-eqb, ne-eqb, leb-true}
 use Rattle.text.specs.Bytes.{is, first, part}
 use Rattle.text.specs.Pattern.{startsWith, endsWith, find, later, isAt, contains}
 use Rattle.text.specs.declared.pattern.Found.{Found}
 use Rattle.text.specs.declared.pattern.Found.the-variants.{At, Nothing}
-use Rattle.text.proofs.BytesLaws.{or-left, or-right, rest}
+use Rattle.text.proofs.BytesLaws.{rest}
 
 pub and-left : (a b : Bool) → (a && b) ≡ true → a ≡ true
 and-left true b e = refl
@@ -136,44 +136,6 @@ within p (x ∷ s) = here (startsWith p (x ∷ s)) (find p s) refl (within p s)
 
 pub find-within : (p s : List ℕ) (i : ℕ) → find p s ≡ At i → i + length p ≤ length s
 find-within p s i e = subst (Within p s) e (within p s)
-
--- a text without the pattern has it in no part at its start
-starts-take : (p s : List ℕ) (n : ℕ) → startsWith p s ≡ false → startsWith p (take n s) ≡ false
-unfolding startsWith
-starts-take [] s n e = e
-starts-take (b ∷ p) s zero e = refl
-starts-take (b ∷ p) [] (suc n) e = refl
-starts-take (b ∷ p) (x ∷ s) (suc n) e = go (eqb x b) (starts-take p s n) e
-  where
-    go : (t : Bool) → (startsWith p s ≡ false → startsWith p (take n s) ≡ false) → (t && startsWith p s) ≡ false
-        → (t && startsWith p (take n s)) ≡ false
-    go true h q = h q
-    go false h q = refl
-
-contains-nil : (p : List ℕ) → contains p [] ≡ startsWith p []
-unfolding find
-contains-nil p = go (startsWith p [])
-  where
-    go : (b : Bool) → isAt (cond b (At 0) Nothing) ≡ b
-    go true = refl
-    go false = refl
-
-contains-cons : (p : List ℕ) (x : ℕ) (s : List ℕ) → contains p (x ∷ s) ≡ (startsWith p (x ∷ s) || contains p s)
-unfolding find
-contains-cons p x s = go (startsWith p (x ∷ s)) (find p s)
-  where
-    go : (b : Bool) (f : Found) → isAt (cond b (At 0) (later 1 f)) ≡ (b || isAt f)
-    go true f = refl
-    go false (At i) = refl
-    go false Nothing = refl
-
-pub contains-take : (p s : List ℕ) (n : ℕ) → contains p s ≡ false → contains p (take n s) ≡ false
-contains-take p [] n e = ap (contains p) (take-nil n) ∙ e
-contains-take p (x ∷ s) zero e = contains-nil p ∙ starts-take p (x ∷ s) 0 (or-left _ (contains p s) (sym (contains-cons p x s) ∙ e))
-contains-take p (x ∷ s) (suc n) e =
-    let q : (startsWith p (x ∷ s) || contains p s) ≡ false = sym (contains-cons p x s) ∙ e in
-    contains-cons p x (take n s)
-    ∙ rw (starts-take p (x ∷ s) (suc n) (or-left _ (contains p s) q)) (contains-take p s n (or-right (startsWith p (x ∷ s)) _ q))
 
 -- a longer pattern stands at no place before the first of its start
 starts-longer : (p q s : List ℕ) → startsWith p s ≡ false → startsWith (p ++ q) s ≡ false

@@ -1,5 +1,5 @@
 -- Patterns in a text: at its start, at its end, and anywhere.
-use Prim.Native.Nat.{ℕ, zero, suc, _+_, _-_}
+use Prim.Native.Nat.{ℕ, _+_, _-_}
 use Prim.Native.String.{String}
 use Prim.Native.String as str
 use Prim.Native.Char.{code}

@@ -1,8 +1,8 @@
 -- `marker::events::put_spans` meets its contract. The invariant: what is left to read at place i of the line, written after what is written so far, is the whole.
-use Prim.Native.Nat.{ℕ, _+_, _-_, _≤_}
+use Prim.Native.Nat.{_-_, _≤_}
 use mathlib.Core.Path.{_≡_, refl, sym, ap, _∙_}
 use mathlib.Core.List.{map}
-use lib.ListN.{length, drop}
+use lib.ListN.{length}
 use native.Mathlib.Omega.{arith}
 use borrow.Author.Needs.{needs}
 use Rattle.text.proofs.BytesLaws.{rest-length}

@@ -1,5 +1,5 @@
 -- `marker::region::next_region` meets its contract. The invariant: the regions from place a on are those from the cursor on.
-use Prim.Native.Nat.{ℕ, _+_, _-_, _≤_}
+use Prim.Native.Nat.{_+_, _-_, _≤_}
 use mathlib.Core.Path.{_≡_, refl, sym, _∙_}
 use mathlib.Core.List.{[], _∷_}
 use lib.ListN.{length, drop}
@@ -8,7 +8,6 @@ use native.Mathlib.Omega.{arith}
 use borrow.Author.Needs.{needs}
 use Rattle.text.specs.Lines.{linesFrom}
 use Rattle.marker.specs.Scan.{begin, scanFrom, regionsOf}
-use Rattle.marker.specs.Regions.{Next}
 use Rattle.marker.proofs.SkipLaws.{part-length}
 use Rattle.marker.proofs.RegionLaws.{region-on, region-none, region-found}
 use Rattle.marker.proofs.region.next_region.Statement.{statement}

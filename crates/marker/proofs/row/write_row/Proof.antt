@@ -7,7 +7,7 @@ use lib.ListN.{length, take, drop, length-set}
 use lib.Seq.{sets}
 use Rattle.text.specs.Lines.{LF}
 use Rattle.text.proofs.BufferLaws.{sets-append}
-use Rattle.marker.specs.Listing.{cells, rowOf}
+use Rattle.marker.specs.Listing.{cells}
 use Rattle.marker.proofs.SheetLaws.{row-length, cells-length, cells-written, cells-none}
 use Rattle.marker.proofs.row.write_row.Statement.{statement}
 use Rattle.marker.proofs.row.write_row.Tie as tie

@@ -1,6 +1,5 @@
 -- `marker::state::kind_at` meets its contract. Assumes nothing.
-use mathlib.Core.Path.{_∙_, ap}
-use Rattle.marker.specs.Marker.{kindOf}
+use mathlib.Core.Path.{_∙_}
 use Rattle.marker.specs.Scan.{kindAt}
 use borrow.Author.Needs.{needs}
 use Rattle.marker.proofs.state.kind_at.Statement.{statement}
