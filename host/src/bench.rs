@@ -24,6 +24,7 @@ fn rows() -> Vec<(&'static str, Vec<u8>)> {
         ("a marker in each line, 1 MiB", marker_in_each_line(MIB)),
         ("one line, a span at its end, 1 MiB", long_line(MIB, "<!--[k]-->v<!--[/]-->")),
         ("one line, no marker, 1 MiB", long_line(MIB, "")),
+        ("notes, 1 KiB", notes(KIB, &mut random)),
     ]
 }
 
