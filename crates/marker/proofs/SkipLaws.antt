@@ -8,7 +8,7 @@ use native.Mathlib.Omega.{arith}
 use mathlib.Core.Path.{_≡_, refl, sym, ap, _∙_}
 use mathlib.Core.Bool.{Bool, true, false, _&&_, _||_, false≢true, and-false, or-assoc, or-false}
 use mathlib.Core.List.{List, [], _∷_, _++_, append-nil}
-use lib.ListN.{length, take, drop, getD, length-drop, length-take}
+use lib.ListN.{length, take, drop, getD, length-drop}
 use lib.Seq.{drop-cons, drop-drop, take-take, take-nil}
 use lib.Dec.{eqb}
 use borrow.Author.Tests.{eqb-true}
@@ -17,8 +17,8 @@ use Rattle.text.specs.Pattern.{startsWith, find, isAt, contains}
 use Rattle.text.specs.Space.{lead, trimStart}
 use Rattle.text.specs.Lines.{LF, Line, linesFrom, lineEnd, lineNext}
 use Rattle.text.specs.declared.pattern.Found.the-variants.{Nothing}
-use Rattle.text.proofs.BytesLaws.{or-left, or-right, rest}
-use Rattle.text.proofs.LineLaws.{lines-step, lines-at, line-within, lines-length, after-le, lines-split-at, lines-skipped-at}
+use Rattle.text.proofs.BytesLaws.{part-length, or-left, or-right, rest, after-le}
+use Rattle.text.proofs.LineLaws.{lines-step, lines-at, line-within, lines-length, lines-split-at, lines-skipped-at}
 use Rattle.marker.specs.Marker.{isFence, OPEN}
 use Rattle.marker.specs.Skip.{anyThree, hint, allPlain, Skipped}
 
@@ -37,9 +37,6 @@ pub part-within : (s : List ℕ) (a b d e : ℕ) → a ≤ b → b ≤ d → d �
 part-within s a b d e h i j =
     let k : a + (b - a) ≡ b = omega arith in
     take-within (b - a) (d - b) (e - a) (drop a s) (omega arith) ∙ rw (drop-drop, k)
-
-pub part-length : (s : List ℕ) (a e : ℕ) → length (part a e s) ≤ e - a
-part-length s a e = omega (arith, length-take (e - a) (drop a s))
 
 -- three bytes at place i
 three : (s : List ℕ) (i : ℕ) → i + 2 < length s → drop i s ≡ getD s i 0 ∷ getD s (i + 1) 0 ∷ getD s (i + 2) 0 ∷ drop (suc (suc (suc i))) s

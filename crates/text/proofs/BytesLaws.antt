@@ -7,7 +7,7 @@ use native.Mathlib.Omega.{arith}
 use mathlib.Core.Path.{_≡_, refl, sym, ap, _∙_}
 use mathlib.Core.Bool.{Bool, true, false, cond, _||_, false≢true, or-assoc, or-false}
 use mathlib.Core.List.{List, [], _∷_}
-use lib.ListN.{length, take, drop, getD, drop-of-length-le, length-drop}
+use lib.ListN.{length, take, drop, getD, drop-of-length-le, length-drop, length-take}
 use lib.Seq.{drop-cons, drop-drop, take-all, take-nil}
 use Rattle.text.specs.Bytes.{part, any, first, count, afterLast}
 
@@ -146,3 +146,27 @@ module _ (f : ℕ → Bool) (s : List ℕ) where
   unfolding afterLast
   after-end zero h = refl
   after-end (suc e) h = absurd (not-suc-le-zero h)
+
+-- places that a search gives lie within
+pub first-le : (f : ℕ → Bool) (s : List ℕ) → first f s ≤ length s
+unfolding first
+first-le f [] = zero-le
+first-le f (x ∷ s) = go (f x) (first-le f s)
+  where
+    go : (b : Bool) → first f s ≤ length s → cond b 0 (suc (first f s)) ≤ suc (length s)
+    go true h = zero-le
+    go false h = omega arith
+
+pub after-le : (f : ℕ → Bool) (s : List ℕ) → afterLast f s ≤ length s
+unfolding afterLast
+after-le f [] = zero-le
+after-le f (x ∷ s) = go (f x) (afterLast f s) (after-le f s)
+  where
+    go : (b : Bool) (m : ℕ) → m ≤ length s → elim m [ zero ↦ cond b 1 0 | suc k ↦ suc (suc k) ] ≤ suc (length s)
+    go true zero h = omega arith
+    go false zero h = omega arith
+    go b (suc k) h = omega arith
+
+-- a part is no longer than its places say
+pub part-length : (s : List ℕ) (a e : ℕ) → length (part a e s) ≤ e - a
+part-length s a e = omega (arith, length-take (e - a) (drop a s))

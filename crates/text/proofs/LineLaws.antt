@@ -15,7 +15,7 @@ use borrow.Author.Tests.{eq-eqb, ne-eqb, eqb-true, eqb-false}
 use Rattle.text.specs.Bytes.{part, is, first, count, afterLast}
 use Rattle.text.specs.Pattern.{startsWith}
 use Rattle.text.specs.Lines.{LF, CR, breaks, Line, front, linesFrom, lineEnd, lineNext, onto, pieces, piecesAfter}
-use Rattle.text.proofs.BytesLaws.{after-hit, after-miss}
+use Rattle.text.proofs.BytesLaws.{after-le, after-hit, after-miss}
 
 -- a CR before an LF, by the bytes
 breaks-one : (x : ℕ) → breaks (x ∷ []) ≡ false
@@ -196,16 +196,6 @@ module _ (s : List ℕ) (i e : ℕ) (q : e ≡ i + first (is LF) (drop i s)) whe
       omega (arith, line-next (drop i s) l)
 
 -- places after the last byte that passes
-pub after-le : (f : ℕ → Bool) (s : List ℕ) → afterLast f s ≤ length s
-unfolding afterLast
-after-le f [] = zero-le
-after-le f (x ∷ s) = go (f x) (afterLast f s) (after-le f s)
-  where
-    go : (b : Bool) (m : ℕ) → m ≤ length s → elim m [ zero ↦ cond b 1 0 | suc k ↦ suc (suc k) ] ≤ suc (length s)
-    go true zero h = omega arith
-    go false zero h = omega arith
-    go b (suc k) h = omega arith
-
 after-again : (f : ℕ → Bool) (s : List ℕ) → afterLast f (take (afterLast f s) s) ≡ afterLast f s
 unfolding afterLast
 after-again f [] = refl

@@ -7,7 +7,7 @@ use borrow.Author.Needs.{needs}
 use Rattle.text.specs.Lines.{linesFrom}
 use Rattle.marker.specs.Scan.{scan, scanFrom}
 use Rattle.marker.specs.Sheet.{sheet, written}
-use Rattle.marker.proofs.SkipLaws.{part-length}
+use Rattle.text.proofs.BytesLaws.{part-length}
 use Rattle.marker.proofs.ScanLaws.{turned, ended}
 use Rattle.marker.proofs.events.put_scan.Statement.{statement}
 use Rattle.marker.proofs.events.put_scan.Tie as tie

@@ -8,7 +8,7 @@ use native.Mathlib.Omega.{arith}
 use borrow.Author.Needs.{needs}
 use Rattle.text.specs.Lines.{linesFrom}
 use Rattle.marker.specs.Scan.{begin, scanFrom, regionsOf}
-use Rattle.marker.proofs.SkipLaws.{part-length}
+use Rattle.text.proofs.BytesLaws.{part-length}
 use Rattle.marker.proofs.RegionLaws.{region-on, region-none, region-found}
 use Rattle.marker.proofs.region.next_region.Statement.{statement}
 use Rattle.marker.proofs.region.next_region.Tie as tie

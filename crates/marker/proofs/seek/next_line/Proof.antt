@@ -6,7 +6,8 @@ use mathlib.Core.Path.{ap}
 use native.Mathlib.Omega.{arith}
 use borrow.Author.Needs.{needs}
 use Rattle.text.proofs.BytesLaws.{rest-length}
-use Rattle.marker.proofs.SkipLaws.{part-length, passed-all, passed-some}
+use Rattle.text.proofs.BytesLaws.{part-length}
+use Rattle.marker.proofs.SkipLaws.{passed-all, passed-some}
 use Rattle.marker.proofs.seek.next_line.Statement.{statement}
 use Rattle.marker.proofs.seek.next_line.Tie as tie
 

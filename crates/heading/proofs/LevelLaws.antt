@@ -1,0 +1,126 @@
+-- Laws of levels: the lesser of two levels; the shift, where what the machine computes is the sum in ℤ, since both are small; the bytes of a heading
+-- line, written one after the other; and a turn of the walk that looks for the shallowest heading. Assumes nothing.
+use Prim.Native.Nat.{ℕ, zero, suc, _+_, _-_, _^_, _≤_, _<_, min}
+use native.Mathlib.Nat.{min-eq-left, min-eq-right}
+use native.Mathlib.Numerals.{add-one}
+use native.Mathlib.Omega.{arith}
+use mathlib.Core.Path.{_≡_, refl, sym, ap, _∙_}
+use mathlib.Core.Bool.{Bool, true, false, cond}
+use mathlib.Core.List.{List, [], _∷_, _++_}
+use borrow.Author.Tests.{eqb-false, ltb-true, ltb-false, le-leb, lt-leb}
+use lib.Dec.{T, eqb, ltb}
+use lib.IntN.{ℤ, pos, negsuc, _+ℤ_, _-ℤ_, natAbs}
+use lib.ListN.{length, set, replicate, length-replicate, replicate-append-replicate}
+use lib.Seq.{sets}
+use lib.Signed.{mag, ltZ, nonNeg, natAbs-le}
+use mir.Syntax.{w32}
+use mir.Val.{SFits, toZ, ofZ}
+use mir.ValLaws.{toZ-pos, toZ-ofZ}
+use Rattle.text.proofs.BufferLaws.{sets-append}
+use Rattle.heading.specs.Walk.{kindOf, after, kindsFrom}
+use Rattle.heading.specs.Level.{least, shallower, shallowestOf, movedTo, headingLine}
+use Rattle.heading.specs.declared.level.TopLevel.{TopLevel}
+use Rattle.heading.specs.declared.level.TopLevel.the-variants.{Level}
+use Rattle.heading.specs.declared.level.Moved.the-variants.{To, Past}
+use Rattle.heading.specs.declared.walk.LineKind.{LineKind}
+use Rattle.heading.specs.declared.walk.WalkState.{WalkState}
+
+-- the lesser level
+pub least-new : (n m : ℕ) → n < m → Level n ≡ least n (Level m)
+least-new n m h = let e : min n m ≡ n = min-eq-left (omega arith) in rw e
+
+pub least-old : (n m : ℕ) → m ≤ n → Level m ≡ least n (Level m)
+least-old n m h = let e : min n m ≡ m = min-eq-right (omega arith) in rw e
+
+-- machine sums and differences of small numbers
+mag-cond : (t : Bool) (x y k : ℕ) → x ≤ k → y ≤ k → mag (cond t (negsuc x) (pos y)) ≤ k
+mag-cond true x y k hx hy = hx
+mag-cond false x y k hx hy = hy
+
+small : (l : ℕ) (s : ℤ) → l ≤ 7 → mag s ≤ 7 → mag (pos l +ℤ s) ≤ 14
+small l (pos n) h k = omega arith
+small l (negsuc n) h k = mag-cond (ltb l (suc n)) (suc n - suc l) (l - suc n) 14 (omega arith) (omega arith)
+
+fits : (z : ℤ) → mag z ≤ 14 → SFits w32 z
+fits z h = record { sfits = omega arith }
+
+pub sum-fits : (l : ℕ) (s : ℤ) → l ≤ 7 → mag s ≤ 7 → SFits w32 (toZ w32 l +ℤ toZ w32 (ofZ w32 s))
+sum-fits l s h k = rw (toZ-pos w32 l (omega arith), toZ-ofZ w32 s (record { sfits = omega arith })) (fits (pos l +ℤ s) (small l s h k))
+
+mag-difference : (a b : ℕ) → a ≤ 7 → b ≤ 7 → mag (pos a -ℤ pos b) ≤ 14
+mag-difference a zero h k = omega arith
+mag-difference a (suc b) h k = mag-cond (ltb a (suc b)) (suc b - suc a) (a - suc b) 14 (omega arith) (omega arith)
+
+pub difference-fits : (a b : ℕ) → a ≤ 7 → b ≤ 7 → SFits w32 (toZ w32 a -ℤ toZ w32 b)
+difference-fits a b h k = rw (toZ-pos w32 a (omega arith), toZ-pos w32 b (omega arith)) (fits (pos a -ℤ pos b) (mag-difference a b h k))
+
+pub difference : (a b : ℕ) → a ≤ 7 → b ≤ 7 → toZ w32 (ofZ w32 (toZ w32 a -ℤ toZ w32 b)) ≡ pos a -ℤ pos b
+difference a b h k =
+    rw (toZ-ofZ w32 (toZ w32 a -ℤ toZ w32 b) (difference-fits a b h k), toZ-pos w32 a (omega arith), toZ-pos w32 b (omega arith))
+
+-- the number that the machine has after the addition
+pub moved : (l : ℕ) (s : ℤ) → l ≤ 7 → mag s ≤ 7 → toZ w32 (ofZ w32 (toZ w32 l +ℤ toZ w32 (ofZ w32 s))) ≡ pos l +ℤ s
+moved l s h k =
+    rw (toZ-ofZ w32 (toZ w32 l +ℤ toZ w32 (ofZ w32 s)) (sum-fits l s h k), toZ-pos w32 l (omega arith), toZ-ofZ w32 s (record { sfits = omega arith }))
+
+-- what the two tests say of it
+clash : true ≡ false → ⊥
+clash e = let z : _≡_ {A = ℕ} 0 1 = cc in omega arith
+
+pub low : (z : ℤ) → ltZ z (pos 1) ≡ true → Past ≡ movedTo z
+low (pos n) h = let l : n < 1 = ltb-true n 1 h in simp (lt-leb 1 n l)
+low (negsuc n) h = refl
+
+pub high : (z : ℤ) → ltZ z (pos 1) ≡ false → ltZ (pos 6) z ≡ true → Past ≡ movedTo z
+high (pos n) g h = let l : 6 < n = ltb-true 6 n h in simp (le-leb 1 n (omega arith), lt-leb n 6 l)
+high (negsuc n) g h = refl
+
+pub mid : (z : ℤ) → ltZ z (pos 1) ≡ false → ltZ (pos 6) z ≡ false → To (natAbs z) ≡ movedTo z
+mid (pos n) g h = simp (le-leb 1 n (omega (arith, ltb-false n 1 g)), le-leb n 6 (omega (arith, ltb-false 6 n h)))
+mid (negsuc n) g h = absurd (clash g)
+
+pub not-negative : (z : ℤ) → ltZ z (pos 1) ≡ false → T (nonNeg z)
+not-negative (pos n) g = tt
+not-negative (negsuc n) g = absurd (clash g)
+
+pub moved-small : (l : ℕ) (s : ℤ) → l ≤ 7 → mag s ≤ 7 → natAbs (pos l +ℤ s) < 2 ^ 64
+moved-small l s h k = let a : natAbs (pos l +ℤ s) ≤ 15 = natAbs-le (pos l +ℤ s) (omega (arith, small l s h k)) in omega arith
+
+-- a write behind n equal bytes
+behind : (l b : List ℕ) (at i n x : ℕ) → i ≡ at + n → sets (sets l at (replicate n x)) i b ≡ sets l at (replicate n x ++ b)
+behind l b at i n x h =
+    let e : i ≡ at + length (replicate n x) = rw (length-replicate n x) h in
+    ap (λ (k : ℕ). sets (sets l at (replicate n x)) k b) e ∙ sets-append l (replicate n x) b at
+
+-- no hash is written yet
+pub hashes-none : (l : List ℕ) (at : ℕ) → l ≡ sets l at (replicate (at - at) 0x23)
+hashes-none l at = let e : at - at ≡ 0 = omega arith in rw e
+
+-- a turn of the loop that writes hashes
+pub hashes-more : (l : List ℕ) (at i : ℕ) → at ≤ i → set (sets l at (replicate (i - at) 0x23)) i 0x23 ≡ sets l at (replicate (i + 1 - at) 0x23)
+hashes-more l at i h =
+    let e : i - at + 1 ≡ i + 1 - at = omega arith in
+    behind l (replicate 1 0x23) at i (i - at) 0x23 (omega arith)
+    ∙ rw (replicate-append-replicate {A = ℕ} (i - at) 1 0x23, e)
+
+-- the hashes, a space and the text
+pub heading-written : (l text : List ℕ) (at n : ℕ) {m o : List ℕ} → m ≡ sets l at (replicate n 0x23) → o ≡ sets (set m (at + n) 0x20) (at + n + 1) text
+    → o ≡ sets l at (headingLine n text)
+heading-written l text at n {m} {o} e f =
+    (rw add-one at f) ∙ ap (λ (r : List ℕ). sets r (at + n) (0x20 ∷ text)) e ∙ behind l (0x20 ∷ text) at (at + n) n 0x23 refl
+
+-- a turn of the walk over pieces
+pub turn : (b : TopLevel) (st : WalkState) (l : List ℕ) (ls : List (List ℕ)) {b' : TopLevel} {st' : WalkState} {k : LineKind} {ps : List (List ℕ)} → ps ≡ l ∷ ls
+    → k ≡ kindOf (st .fence) (st .comment) l → st' ≡ after (st .fence) (st .comment) l → b' ≡ shallower b k
+    → shallowestOf b' (kindsFrom st' ls) ≡ shallowestOf b (kindsFrom st ps)
+unfolding shallowestOf kindsFrom
+turn b st l ls p e f g = rw (p, g, f, e)
+
+-- a piece that is not the last ends before the text
+pub before-end : {e n : ℕ} {last : Bool} → last ≡ eqb e n → last ≡ false → e ≤ n → e < n
+before-end {e} {n} p q h = let d : e ≡ n → ⊥ = eqb-false e n (sym p ∙ q) in omega arith
+
+-- no piece is left
+pub none-left : (b : TopLevel) (st : WalkState) → shallowestOf b (kindsFrom st []) ≡ b
+unfolding shallowestOf kindsFrom
+none-left b st = refl

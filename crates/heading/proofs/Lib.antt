@@ -1,0 +1,5 @@
+pub mod WalkLaws
+pub mod ContentsLaws
+pub mod LevelLaws
+pub mod AnchorLaws
+pub mod Checks

@@ -1,0 +1,80 @@
+-- Document 01, "Assembly and book": "Anchor: `slug`": the anchor of a heading's text, as the Rust's `slug` makes it.
+use Prim.Native.Nat.{ℕ, suc, _≤_, _<_}
+use mathlib.Core.Bool.{Bool, false, cond, not, _&&_, _||_}
+use mathlib.Core.List.{List, [], _∷_}
+use lib.ListN.{length}
+use lib.Dec.{eqb, leb}
+use mathlib.Core.Path.{_≡_}
+use Rattle.text.specs.Bytes.{part}
+use Rattle.text.specs.Space.{isSpace, trim}
+use Rattle.heading.specs.Contents.{lower}
+use Rattle.heading.specs.declared.anchor.AnchorCursor.{AnchorCursor}
+use Rattle.heading.specs.declared.anchor.AnchorByte.{AnchorByte}
+use Rattle.heading.specs.declared.anchor.AnchorByte.the-variants.{Byte, End}
+use Rattle.heading.specs.declared.anchor.Markup.{Markup}
+use Rattle.heading.specs.declared.anchor.Markup.the-variants.{Written, Bracket, Behind, Target}
+
+-- a backtick, `*` or `_`
+abbrev pub isMark : ℕ → Bool
+isMark x = eqb x 0x60 || (eqb x 0x2A || eqb x 0x5F)
+
+-- whether a byte is text: a link keeps its text, in brackets, and loses its target, in parentheses directly behind; marks go outside brackets
+unfoldable pub shows : Markup → ℕ → Bool
+shows Written x = not (eqb x 0x5B || isMark x)
+shows Bracket x = not (eqb x 0x5D)
+shows Behind x = not (eqb x 0x28 || (eqb x 0x5B || isMark x))
+shows Target x = false
+
+-- where the next byte stands: what is not closed takes the rest
+unfoldable pub then : Markup → ℕ → Markup
+then Written x = cond (eqb x 0x5B) Bracket Written
+then Bracket x = cond (eqb x 0x5D) Behind Bracket
+then Behind x = cond (eqb x 0x28) Target (cond (eqb x 0x5B) Bracket Written)
+then Target x = cond (eqb x 0x29) Written Target
+
+-- the text without its markup
+unfoldable pub plainFrom : Markup → List ℕ → List ℕ
+plainFrom m [] = []
+plainFrom m (x ∷ s) = cond (shows m x) (x ∷ plainFrom (then m x) s) (plainFrom (then m x) s)
+
+abbrev pub plain : List ℕ → List ℕ
+plain s = plainFrom Written s
+
+-- letters and digits, `-` and `_` are kept
+abbrev pub isLetter : ℕ → Bool
+isLetter x = leb 0x61 x && leb x 0x7A
+
+abbrev pub isDigit : ℕ → Bool
+isDigit x = leb 0x30 x && leb x 0x39
+
+abbrev pub isKept : ℕ → Bool
+isKept x = (isLetter (lower x) || isDigit x) || (eqb x 0x2D || eqb x 0x5F)
+
+-- what a byte gives: kept ones in lower case, 20 hex `-`, any other nothing
+unfoldable pub anchorOf : List ℕ → List ℕ
+anchorOf [] = []
+anchorOf (x ∷ s) = cond (isKept x) (lower x ∷ anchorOf s) (cond (eqb x 0x20) (0x2D ∷ anchorOf s) (anchorOf s))
+
+-- the anchor of a heading's text
+unfoldable pub slug : List ℕ → List ℕ
+slug t = anchorOf (trim (plain t))
+
+-- For the cursor: what is left of an anchor
+abbrev pub anchorFrom : AnchorCursor → List ℕ → List ℕ
+anchorFrom c t = anchorOf (plainFrom (c .markup) (part (c .at) (c .end) t))
+
+abbrev pub Within : AnchorCursor → List ℕ → Type 0
+Within c t = (c .at ≤ c .end) × (c .end ≤ length t)
+
+-- a byte and what is left after it, or nothing left
+abbrev pub Next : List ℕ → AnchorCursor → AnchorByte → Type 0
+Next t c (Byte b d) = (anchorFrom c t ≡ b ∷ anchorFrom d t) × ((c .at < d .at) × Within d t)
+Next t c End = anchorFrom c t ≡ []
+
+-- the place after the last byte of t that is text and no space byte, n bytes standing before t
+unfoldable pub plainEndFrom : Markup → ℕ → ℕ → List ℕ → ℕ
+plainEndFrom m end n [] = end
+plainEndFrom m end n (x ∷ t) = plainEndFrom (then m x) (cond (shows m x && not (isSpace x)) (suc n) end) (suc n) t
+
+abbrev pub plainEnd : List ℕ → ℕ
+plainEnd t = plainEndFrom Written 0 0 t

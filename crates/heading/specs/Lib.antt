@@ -1,0 +1,4 @@
+pub mod Walk
+pub mod Level
+pub mod Contents
+pub mod Anchor

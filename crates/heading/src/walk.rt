@@ -1,0 +1,198 @@
+// The heading walk: a step a line. A line is what stands between LFs.
+ghost use mathlib.Core.Bool.{cond};
+ghost use mathlib.Core.Path.{_≡_};
+ghost use Prim.Native.Nat.{_≤_};
+ghost use lib.ListN.{length};
+ghost use Rattle.heading.specs.Walk.{hashes as hashesOf, headingOf, opener as openerOf, closes as closesBy, opensComment, writtenKind, commentAfter, kindOf, after as afterLine, begin as beginning};
+use text::pattern;
+use text::space;
+
+// The fence that is open, by its three bytes.
+pub enum Fence {
+    Outside,
+    Ticks,
+    Tildes,
+}
+
+pub enum LineKind {
+    // In a fence, its opener and its closer with it.
+    Quoted,
+    // A heading: its level, and where its text starts and ends in the line.
+    Heading {
+        level: usize,
+        start: usize,
+        end: usize,
+    },
+    Other,
+}
+
+pub struct WalkState {
+    pub fence: Fence,
+    pub comment: bool,
+}
+
+// What a line is, and the state after it.
+pub struct WalkStep {
+    pub kind: LineKind,
+    pub state: WalkState,
+}
+
+// The state before the first line.
+pub fn begin() -> WalkState
+    ensures { λ r. ⌜ r ≡ beginning ⌝ }
+{
+    WalkState {
+        fence: Fence::Outside,
+        comment: false,
+    }
+}
+
+// How many `#` a line begins with.
+fn hashes(line: &[u8]) -> usize
+    ensures { λ r. ⌜ (r ≡ hashesOf (now (line .entry))) × (r ≤ length (now (line .entry))) ⌝ }
+{
+    let mut i = 0;
+    while i < line.len() {
+        if line[i] != b'#' {
+            return i;
+        }
+        i += 1;
+    }
+    i
+}
+
+// A heading, or another line.
+pub fn split_heading(line: &[u8]) -> LineKind
+    ensures { λ r. ⌜ r ≡ headingOf (now (line .entry)) ⌝ }
+{
+    let n = hashes(line);
+    if n < 1 {
+        return LineKind::Other;
+    }
+    if 6 < n {
+        return LineKind::Other;
+    }
+    if !pattern::starts_with(&line[n..], b" ") {
+        return LineKind::Other;
+    }
+    let a = n + space::lead(&line[n..]);
+    let e = a + space::kept(&line[a..]);
+    LineKind::Heading {
+        level: n,
+        start: a,
+        end: e,
+    }
+}
+
+// The fence that a line opens.
+fn opening_fence(line: &[u8]) -> Fence
+    ensures { λ r. ⌜ r ≡ openerOf (now (line .entry)) ⌝ }
+{
+    let a = space::lead(line);
+    if pattern::starts_with(&line[a..], b"```") {
+        return Fence::Ticks;
+    }
+    if pattern::starts_with(&line[a..], b"~~~") {
+        return Fence::Tildes;
+    }
+    Fence::Outside
+}
+
+// Whether a line closes the open fence.
+fn closes(fence: Fence, line: &[u8]) -> bool
+    ensures { λ r. ⌜ r ≡ closesBy fence (now (line .entry)) ⌝ }
+{
+    let a = space::lead(line);
+    match fence {
+        Fence::Outside => false,
+        Fence::Ticks => pattern::starts_with(&line[a..], b"```"),
+        Fence::Tildes => pattern::starts_with(&line[a..], b"~~~"),
+    }
+}
+
+// Whether a line opens a comment that it does not end.
+fn opens_comment(line: &[u8]) -> bool
+    ensures { λ r. ⌜ r ≡ opensComment (now (line .entry)) ⌝ }
+{
+    let a = space::lead(line);
+    if !pattern::starts_with(&line[a..], b"<!--") {
+        return false;
+    }
+    let b = a + 4;
+    !pattern::contains(&line[b..], b"-->")
+}
+
+// A line that no fence quotes, with a comment open above it or not.
+fn written(comment: bool, line: &[u8]) -> WalkStep
+    ensures { λ r. ⌜ (r .kind ≡ writtenKind comment (now (line .entry))) × (r .state ≡ record { fence = Fence.Outside; comment = commentAfter comment (now (line .entry)) }) ⌝ }
+{
+    if comment {
+        return WalkStep {
+            kind: LineKind::Other,
+            state: WalkState {
+                fence: Fence::Outside,
+                comment: !pattern::contains(line, b"-->"),
+            },
+        };
+    }
+    if opens_comment(line) {
+        return WalkStep {
+            kind: LineKind::Other,
+            state: WalkState {
+                fence: Fence::Outside,
+                comment: true,
+            },
+        };
+    }
+    WalkStep {
+        kind: split_heading(line),
+        state: WalkState {
+            fence: Fence::Outside,
+            comment: false,
+        },
+    }
+}
+
+// A quoted line, with a fence open after it or not.
+fn quoted(fence: Fence, comment: bool) -> WalkStep
+    ensures { λ r. ⌜ r ≡ record { kind = LineKind.Quoted; state = record { fence = fence; comment = comment } } ⌝ }
+{
+    WalkStep {
+        kind: LineKind::Quoted,
+        state: WalkState { fence, comment },
+    }
+}
+
+// A line outside fences.
+fn outside(comment: bool, line: &[u8]) -> WalkStep
+    ensures { λ r. ⌜ (r .kind ≡ kindOf Fence.Outside comment (now (line .entry))) × (r .state ≡ afterLine Fence.Outside comment (now (line .entry))) ⌝ }
+{
+    let fence = opening_fence(line);
+    match fence {
+        Fence::Outside => written(comment, line),
+        Fence::Ticks => quoted(fence, comment),
+        Fence::Tildes => quoted(fence, comment),
+    }
+}
+
+// A line in an open fence.
+fn inside(fence: Fence, comment: bool, line: &[u8]) -> WalkStep
+    ensures { λ r. ⌜ r ≡ record { kind = LineKind.Quoted; state = record { fence = cond (closesBy fence (now (line .entry))) Fence.Outside fence; comment = comment } } ⌝ }
+{
+    if closes(fence, line) {
+        return quoted(Fence::Outside, comment);
+    }
+    quoted(fence, comment)
+}
+
+// What a line is, and the state after it.
+pub fn step(state: WalkState, line: &[u8]) -> WalkStep
+    ensures { λ r. ⌜ (r .kind ≡ kindOf (state .fence) (state .comment) (now (line .entry))) × (r .state ≡ afterLine (state .fence) (state .comment) (now (line .entry))) ⌝ }
+{
+    let fence = state.fence;
+    match fence {
+        Fence::Outside => outside(state.comment, line),
+        Fence::Ticks => inside(fence, state.comment, line),
+        Fence::Tildes => inside(fence, state.comment, line),
+    }
+}
