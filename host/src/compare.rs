@@ -7,36 +7,13 @@ mod library;
 use std::time::{Duration, Instant};
 
 use jilgyemot_host::generate::Texts;
+use jilgyemot_host::options::Options;
 use jilgyemot_host::oracle::Expected;
 use jilgyemot_host::random::Random;
+use jilgyemot_host::shrink::shrink;
 use lent::Lent;
 
 const USAGE: &str = "usage: compare [--cases N] [--seconds N] [--seed S]";
-
-/// Where a run ends, and what its texts are made from.
-struct Options {
-    cases: Option<u64>,
-    seconds: Option<u64>,
-    seed: u64,
-}
-
-fn options() -> Option<Options> {
-    let mut options = Options { cases: None, seconds: None, seed: 1 };
-    let mut words = std::env::args().skip(1);
-    while let Some(word) = words.next() {
-        let number = words.next()?.parse().ok()?;
-        match word.as_str() {
-            "--cases" => options.cases = Some(number),
-            "--seconds" => options.seconds = Some(number),
-            "--seed" => options.seed = number,
-            _ => return None,
-        }
-    }
-    if options.cases.is_none() && options.seconds.is_none() {
-        options.cases = Some(1_000_000);
-    }
-    Some(options)
-}
 
 /// Compares one text at several output sizes; a case is one call. The answer
 /// is the number of cases, or what is wrong.
@@ -56,25 +33,6 @@ fn output_sizes(full: usize, random: &mut Random) -> Vec<usize> {
         sizes.extend([full - 1, random.below(full), 0]);
     }
     sizes
-}
-
-/// Leaves out of a text that differs what can be left out, in a long text not
-/// byte by byte. The last text for which `differs` holds is the shortest found.
-fn shrink(mut text: Vec<u8>, mut differs: impl FnMut(&[u8]) -> bool) {
-    let mut part = text.len();
-    while part > text.len() / 2_000 {
-        let mut at = 0;
-        while at < text.len() {
-            let mut shorter = text.clone();
-            shorter.drain(at..(at + part).min(text.len()));
-            if differs(&shorter) {
-                text = shorter;
-            } else {
-                at += part;
-            }
-        }
-        part /= 2;
-    }
 }
 
 fn run(options: &Options) -> Result<u64, String> {
@@ -106,7 +64,7 @@ fn run(options: &Options) -> Result<u64, String> {
 }
 
 fn main() {
-    let Some(options) = options() else {
+    let Some(options) = Options::read() else {
         eprintln!("{USAGE}");
         std::process::exit(2);
     };

@@ -4,6 +4,9 @@
 pub mod answer;
 pub mod exhaustive;
 pub mod generate;
+pub mod headed;
 pub mod notes;
+pub mod options;
 pub mod oracle;
 pub mod random;
+pub mod shrink;

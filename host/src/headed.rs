@@ -1,0 +1,143 @@
+//! Texts and titles for the comparison of the leaf functions, rich in headings
+//! and in what is nearly one.
+
+use crate::exhaustive::Exhaustive;
+use crate::random::Random;
+
+const PARTS: [&str; 16] = [
+    "#", " ", "\n", "```", "~~~", "<!--", "-->", "a", "contents", "Table of Contents", "######",
+    "\t", "\r", "\x0b", "\x0c", "\x1c",
+];
+
+const LINES: [&str; 23] = [
+    "", "a", "# A", "## B c", "###### D \r", "####### E", "#F", " # G", "#\tH", "# ", "#", "```",
+    " \t~~~ x", "~~", "\x0b``` `", "<!--", "\r<!-- c --> d", "<!--->", "a -->", "# contents",
+    "### Table Of contents\t", "# contents of", "####### contents",
+];
+
+const NEAR_PARTS: [&str; 26] = [
+    "##", "###", "####", "#####", "#######", "# ", "## ", "###### ", "``", "````", "~", "`~`",
+    "<!-", "<!---->", "<!--->", "--->", "--", "CONTENTS", "contents ", "tAbLe Of CoNtEnTs",
+    "table  of contents", "content", "\x08", "\x0e", "\x1f", "\0",
+];
+
+/// Whole texts, the kinds by turns.
+pub struct Headed {
+    pub parts: Exhaustive,
+    pub lines: Exhaustive,
+    random: Random,
+    turn: usize,
+}
+
+impl Headed {
+    pub fn new(seed: u64) -> Self {
+        Headed {
+            parts: Exhaustive::new(PARTS.to_vec(), ""),
+            lines: Exhaustive::new(LINES.to_vec(), "\n"),
+            random: Random::new(seed),
+            turn: 0,
+        }
+    }
+
+    pub fn next(&mut self) -> Vec<u8> {
+        self.turn += 1;
+        match self.turn % 8 {
+            0..=2 => self.parts.next(),
+            3..=4 => self.lines.next(),
+            _ => random_text(&mut self.random),
+        }
+    }
+}
+
+fn random_text(random: &mut Random) -> Vec<u8> {
+    let mut text = String::new();
+    for _ in 0..random.within(1, 16) {
+        match random.below(4) {
+            0 => text.push_str(random.pick(&LINES)),
+            1 => {
+                text.push_str(&"#".repeat(random.within(1, 7)));
+                text.push(' ');
+                text.push_str(&random_title(random));
+            }
+            _ => {
+                for _ in 0..random.below(7) {
+                    let near = random.one_in(2);
+                    text.push_str(if near {
+                        random.pick(&NEAR_PARTS)
+                    } else {
+                        random.pick(&PARTS)
+                    });
+                }
+            }
+        }
+        text.push('\n');
+    }
+    if random.one_in(3) {
+        text.pop();
+    }
+    text.into_bytes()
+}
+
+const TITLE_PARTS: [&str; 15] =
+    ["[", "]", "(", ")", "`", "*", "_", "-", " ", "a", "B", "7", ".", "\t", "\r"];
+
+const NEAR_TITLE_PARTS: [&str; 17] = [
+    "[a](b)", "[a] (b)", "[a](", "![a](b)", "[[a]](b)", "](", "`a_b`", "**a**", "__", "\x0b",
+    "\x0c", "@", "{", "/", ":", "Z", "\x7f",
+];
+
+/// Heading texts, the kinds by turns.
+pub struct Titles {
+    pub parts: Exhaustive,
+    random: Random,
+    turn: usize,
+}
+
+impl Titles {
+    pub fn new(seed: u64) -> Self {
+        Titles {
+            parts: Exhaustive::new(TITLE_PARTS.to_vec(), ""),
+            random: Random::new(seed),
+            turn: 0,
+        }
+    }
+
+    pub fn next(&mut self) -> Vec<u8> {
+        self.turn += 1;
+        if self.turn % 2 == 0 {
+            return self.parts.next();
+        }
+        random_title(&mut self.random).into_bytes()
+    }
+
+    /// A title near another one, so that some pairs have the same anchor.
+    pub fn near(&mut self, title: &[u8]) -> Vec<u8> {
+        let mut near = title.to_vec();
+        for _ in 0..self.random.within(1, 3) {
+            let at = self.random.below(near.len() + 1);
+            match self.random.below(4) {
+                0 if at < near.len() => drop(near.remove(at)),
+                1 if at < near.len() => near[at] ^= 0x20,
+                _ => {
+                    let part = self.random.pick(&TITLE_PARTS);
+                    near.splice(at..at, part.bytes());
+                }
+            }
+        }
+        near.retain(|byte| *byte != b'\n');
+        near
+    }
+}
+
+fn random_title(random: &mut Random) -> String {
+    let mut title = String::new();
+    for _ in 0..random.below(10) {
+        let near = random.one_in(3);
+        title.push_str(if near {
+            random.pick(&NEAR_TITLE_PARTS)
+        } else {
+            random.pick(&TITLE_PARTS)
+        });
+    }
+    title
+}
