@@ -4,16 +4,12 @@
 mod lent;
 mod library;
 
-use std::time::{Duration, Instant};
-
+use jilgyemot_host::comparison::{Options, report};
 use jilgyemot_host::generate::Texts;
-use jilgyemot_host::options::Options;
 use jilgyemot_host::oracle::Expected;
 use jilgyemot_host::random::Random;
 use jilgyemot_host::shrink::shrink;
 use lent::Lent;
-
-const USAGE: &str = "usage: compare [--cases N] [--seconds N] [--seed S]";
 
 /// Compares one text at several output sizes; a case is one call. The answer
 /// is the number of cases, or what is wrong.
@@ -36,10 +32,7 @@ fn output_sizes(full: usize, random: &mut Random) -> Vec<usize> {
 }
 
 fn run(options: &Options) -> Result<u64, String> {
-    let end = options.seconds.map(|seconds| Instant::now() + Duration::from_secs(seconds));
-    let more = |cases| {
-        options.cases.is_none_or(|most| cases < most) && end.is_none_or(|end| Instant::now() < end)
-    };
+    let more = options.more();
     let mut texts = Texts::new(options.seed);
     let mut random = Random::new(options.seed);
     let mut lent = Lent::default();
@@ -54,7 +47,7 @@ fn run(options: &Options) -> Result<u64, String> {
                         compare(text, &mut random, &mut lent).map_err(|again| wrong = again);
                     again.is_err()
                 });
-                return Err(format!("{wrong}\nafter {cases} cases, seed {}", options.seed));
+                return Err(format!("{wrong}\nafter {cases} cases"));
             }
         }
     }
@@ -64,15 +57,5 @@ fn run(options: &Options) -> Result<u64, String> {
 }
 
 fn main() {
-    let Some(options) = Options::read() else {
-        eprintln!("{USAGE}");
-        std::process::exit(2);
-    };
-    match run(&options) {
-        Ok(cases) => println!("compared {cases} cases, seed {}, no mismatch", options.seed),
-        Err(wrong) => {
-            println!("mismatch: {wrong}");
-            std::process::exit(1);
-        }
-    }
+    report("compare", run);
 }

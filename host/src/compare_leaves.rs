@@ -2,14 +2,10 @@
 
 mod leaf;
 
-use std::time::{Duration, Instant};
-
+use jilgyemot_host::comparison::{Options, report};
 use jilgyemot_host::headed::{Headed, Titles};
-use jilgyemot_host::options::Options;
 use jilgyemot_host::shrink::shrink;
 use leaf::{Outcome, levels, members, titles, walk};
-
-const USAGE: &str = "usage: compare_leaves [--cases N] [--seconds N] [--seed S]";
 
 fn ascii(text: &[u8]) -> &str {
     str::from_utf8(text).expect("generated texts are ASCII")
@@ -47,10 +43,7 @@ fn checked(text: Vec<u8>, check: fn(&[u8]) -> Outcome) -> Outcome {
 }
 
 fn run(options: &Options) -> Outcome {
-    let end = options.seconds.map(|seconds| Instant::now() + Duration::from_secs(seconds));
-    let more = |cases| {
-        options.cases.is_none_or(|most| cases < most) && end.is_none_or(|end| Instant::now() < end)
-    };
+    let more = options.more();
     let mut headed = Headed::new(options.seed);
     let mut titles = Titles::new(options.seed);
     let mut before = Vec::new();
@@ -71,15 +64,5 @@ fn run(options: &Options) -> Outcome {
 }
 
 fn main() {
-    let Some(options) = Options::read() else {
-        eprintln!("{USAGE}");
-        std::process::exit(2);
-    };
-    match run(&options) {
-        Ok(cases) => println!("compared {cases} cases, seed {}, no mismatch", options.seed),
-        Err(wrong) => {
-            println!("mismatch, seed {}: {wrong}", options.seed);
-            std::process::exit(1);
-        }
-    }
+    report("compare_leaves", run);
 }

@@ -2,11 +2,11 @@
 //! stored cases are made without it.
 
 pub mod answer;
+pub mod comparison;
 pub mod exhaustive;
 pub mod generate;
 pub mod headed;
 pub mod notes;
-pub mod options;
 pub mod oracle;
 pub mod random;
 pub mod shrink;

@@ -4,7 +4,7 @@ use mathlib.Core.Path.{_≡_}
 use mathlib.Core.List.{List, [], _∷_}
 use lib.ListN.{length, drop}
 use Rattle.text.specs.Lines.{linesFrom}
-use Rattle.marker.specs.Scan.{begin, scan, scanFrom, regionsOf, regionOf}
+use Rattle.marker.specs.Scan.{begin, scanFrom, regionsOf, regionOf}
 use Rattle.marker.specs.declared.event.Region.{Region}
 use Rattle.marker.specs.declared.state.OpenRegion.{OpenRegion}
 use Rattle.marker.specs.declared.state.OpenRegion.the-variants.{Closed, Open}
@@ -12,11 +12,7 @@ use Rattle.marker.specs.declared.region.Cursor.{Cursor}
 use Rattle.marker.specs.declared.region.NextRegion.{NextRegion}
 use Rattle.marker.specs.declared.region.NextRegion.the-variants.{Whole, NoMore}
 
--- the regions that a scan of s finds, in order
-abbrev pub regions : List ℕ → List Region
-regions s = regionsOf (scan s)
-
--- those from a cursor on
+-- the regions that a scan finds from a cursor on, in order; those of the whole text from place 0, line 0
 abbrev pub regionsFrom : List ℕ → Cursor → List Region
 regionsFrom s c = regionsOf (scanFrom begin (c .line + 1) (linesFrom (c .at) (drop (c .at) s)))
 
