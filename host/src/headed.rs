@@ -61,12 +61,7 @@ fn random_text(random: &mut Random) -> Vec<u8> {
             }
             _ => {
                 for _ in 0..random.below(7) {
-                    let near = random.one_in(2);
-                    text.push_str(if near {
-                        random.pick(&NEAR_PARTS)
-                    } else {
-                        random.pick(&PARTS)
-                    });
+                    text.push_str(part(&PARTS, &NEAR_PARTS, 2, random));
                 }
             }
         }
@@ -129,15 +124,20 @@ impl Titles {
     }
 }
 
+/// One of `parts`, or once in `often` one that is nearly such a part.
+fn part(
+    parts: &[&'static str],
+    near: &[&'static str],
+    often: usize,
+    random: &mut Random,
+) -> &'static str {
+    if random.one_in(often) { random.pick(near) } else { random.pick(parts) }
+}
+
 fn random_title(random: &mut Random) -> String {
     let mut title = String::new();
     for _ in 0..random.below(10) {
-        let near = random.one_in(3);
-        title.push_str(if near {
-            random.pick(&NEAR_TITLE_PARTS)
-        } else {
-            random.pick(&TITLE_PARTS)
-        });
+        title.push_str(part(&TITLE_PARTS, &NEAR_TITLE_PARTS, 3, random));
     }
     title
 }

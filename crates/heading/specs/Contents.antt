@@ -1,8 +1,8 @@
 -- Document 01, "Assembly and book": "Drop hand-written contents (heading trimmed, lowercased: `contents` or `table of contents`; fences and
 -- comments are not looked at) through the line before the next starting with `#` that is not such a heading".
 use Prim.Native.Nat.{ℕ, _+_}
-use mathlib.Core.Bool.{Bool, true, false, cond, not, _&&_, _||_}
-use mathlib.Core.List.{List, [], _∷_, map}
+use mathlib.Core.Bool.{Bool, false, cond, not, _&&_, _||_}
+use mathlib.Core.List.{List, map}
 use lib.Dec.{leb}
 use Rattle.text.specs.Bytes.{part}
 use Rattle.text.specs.Pattern.{bytes, startsWith, equals}
@@ -27,11 +27,6 @@ titlesContents l Other = false
 unfoldable pub isContents : List ℕ → Bool
 isContents l = titlesContents l (headingOf l)
 
--- whether a line is dropped, where the line before it was or was not in such a section: also whether the next line is in one
+-- whether a line is dropped, where the line before it was dropped or not; at first none was
 unfoldable pub drops : Bool → List ℕ → Bool
 drops within l = isContents l || (within && not (startsWith (bytes "#") l))
-
--- the lines that are kept
-unfoldable pub keptFrom : Bool → List (List ℕ) → List (List ℕ)
-keptFrom within [] = []
-keptFrom within (l ∷ ls) = cond (drops within l) (keptFrom true ls) (l ∷ keptFrom false ls)
