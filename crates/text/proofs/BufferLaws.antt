@@ -41,6 +41,10 @@ sets-comm l [] b i j h = refl
 sets-comm l (x ∷ a) b i j h =
     sets-comm (set l i x) a b (suc i) j (omega arith) ∙ ap (λ (m : List ℕ). sets m (suc i) a) (set-sets l b i j x (omega arith))
 
+-- a write before a write is one write
+pub sets-before : (l a b : List ℕ) (i j : ℕ) → i + length a ≡ j → sets (sets l j b) i a ≡ sets l i (a ++ b)
+sets-before l a b i j e = sym (sets-comm l a b i j (omega arith)) ∙ ap (λ (k : ℕ). sets (sets l i a) k b) (sym e) ∙ sets-append l a b i
+
 -- a turn of a loop that copies
 pub sets-more : (l s : List ℕ) (i j : ℕ) → j < length s → set (sets l i (take j s)) (i + j) (getD s j 0) ≡ sets l i (take (j + 1) s)
 sets-more l s i j h =

@@ -1,14 +1,14 @@
 -- Laws of `specs/Bytes.antt`, for code that walks a text byte by byte or block by block, and of parts of a text.
 -- Assumes nothing.
 use Prim.Native.Nat.{ℕ, zero, suc, _+_, _-_, _≤_, _<_, zero-le}
-use native.Mathlib.Nat.{zero-add, le-of-suc-le-suc, not-suc-le-zero}
+use native.Mathlib.Nat.{zero-add, sub-zero, zero-sub, suc-sub-suc, le-of-suc-le-suc, not-suc-le-zero}
 use native.Mathlib.Numerals.{add-one, sub-one}
 use native.Mathlib.Omega.{arith}
 use mathlib.Core.Path.{_≡_, refl, sym, ap, _∙_}
 use mathlib.Core.Bool.{Bool, true, false, cond, _||_, false≢true, or-assoc, or-false}
 use mathlib.Core.List.{List, [], _∷_}
 use lib.ListN.{length, take, drop, getD, drop-of-length-le, length-drop, length-take}
-use lib.Seq.{drop-cons, drop-drop, take-all, take-nil}
+use lib.Seq.{drop-cons, drop-drop, take-all, take-nil, length-slice}
 use Rattle.text.specs.Bytes.{part, any, first, count, afterLast}
 
 pub or-left : (a b : Bool) → (a || b) ≡ false → a ≡ false
@@ -167,6 +167,16 @@ after-le f (x ∷ s) = go (f x) (afterLast f s) (after-le f s)
     go false zero h = omega arith
     go b (suc k) h = omega arith
 
--- a part is no longer than its places say
+-- what stands from place a on in what stands up to place e
+pub drop-take : (s : List ℕ) (a e : ℕ) → drop a (take e s) ≡ part a e s
+drop-take s zero e = rw sub-zero
+drop-take s (suc a) zero = rw zero-sub
+drop-take [] (suc a) (suc e) = sym (take-nil (suc e - suc a))
+drop-take (x ∷ s) (suc a) (suc e) = rw suc-sub-suc (drop-take s a e)
+
+-- a part is no longer than its places say, and just as long where they lie within
 pub part-length : (s : List ℕ) (a e : ℕ) → length (part a e s) ≤ e - a
 part-length s a e = omega (arith, length-take (e - a) (drop a s))
+
+pub part-full : (s : List ℕ) (a e : ℕ) → e ≤ length s → length (part a e s) ≡ e - a
+part-full s a e h = ap length (sym (drop-take s a e)) ∙ length-slice a e s h

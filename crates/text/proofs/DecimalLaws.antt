@@ -1,16 +1,18 @@
--- Laws of `specs/Decimal.antt`: a number's digits by its tenth, how many they are, and their writing from the last one on.
+-- Laws of `specs/Decimal.antt`: a number's digits by its tenth, how many they are, their writing from the last one on, and their reading.
 -- Assumes nothing.
-use Prim.Native.Nat.{ℕ, zero, suc, _+_, _/_, _%_, _^_, _≤_, _<_, zero-le}
+use Prim.Native.Nat.{ℕ, zero, suc, _+_, _*_, _-_, _/_, _%_, _^_, _≤_, _<_, zero-le}
 use native.Mathlib.Decide.{decLe}
+use native.Mathlib.Numerals.{add-one}
 use native.Mathlib.Omega.{arith}
 use mathlib.Core.Path.{_≡_, sym, ap, _∙_}
 use mathlib.Core.Bool.{Bool, true, false, cond}
 use mathlib.Core.List.{List, [], _∷_, _++_}
-use lib.ListN.{length, set, length-append}
-use lib.Seq.{sets}
+use lib.ListN.{length, set, drop, getD, length-append, drop-of-length-le}
+use lib.Seq.{sets, drop-cons}
 use lib.Dec.{ltb}
-use borrow.Author.Tests.{le-ltb, lt-ltb}
-use Rattle.text.specs.Decimal.{digits, decimal}
+use borrow.Author.Tests.{le-ltb, lt-ltb, le-leb, lt-leb}
+use Rattle.text.specs.Decimal.{digits, decimal, numberFrom}
+use Rattle.text.specs.declared.decimal.Number.the-variants.{Is, NoNumber}
 use Rattle.text.proofs.BufferLaws.{sets-append, sets-comm}
 
 digits-small : (f n : ℕ) → n < 10 → digits (suc f) n ≡ (0x30 + n) ∷ []
@@ -107,3 +109,34 @@ put-large l i m h k =
 
 pub put-small : (l : List ℕ) (i m : ℕ) → m < 10 → set l i (0x30 + m) ≡ sets l i (decimal m)
 put-small l i m h = rw (decimal-small m h)
+
+-- at byte i of s, behind the number n
+module _ (s : List ℕ) (n i : ℕ) (h : i < length s) where
+  pub at-low : getD s i 0 < 0x30 → numberFrom n (drop i s) ≡ NoNumber
+  unfolding numberFrom
+  at-low q = rw (drop-cons s i 0 h, lt-leb 0x30 (getD s i 0) q)
+
+  pub at-high : 0x39 < getD s i 0 → numberFrom n (drop i s) ≡ NoNumber
+  unfolding numberFrom
+  at-high q = rw (drop-cons s i 0 h, le-leb 0x30 (getD s i 0) (omega arith), lt-leb (getD s i 0) 0x39 q)
+
+  pub at-digit : 0x30 ≤ getD s i 0 → getD s i 0 ≤ 0x39 → numberFrom n (drop i s) ≡ numberFrom (n * 10 + (getD s i 0 - 0x30)) (drop (i + 1) s)
+  unfolding numberFrom
+  at-digit p q = rw (drop-cons s i 0 h, le-leb 0x30 (getD s i 0) p, le-leb (getD s i 0) 0x39 q, add-one i)
+
+pub at-end : (s : List ℕ) (n i : ℕ) → length s ≤ i → numberFrom n (drop i s) ≡ Is n
+unfolding numberFrom
+at-end s n i h = rw (drop-of-length-le s h)
+
+power-le : (i k : ℕ) → i ≤ k → 10 ^ i ≤ 10 ^ k
+power-le zero zero h = omega arith
+power-le zero (suc k) h = omega (arith, power-le zero k (omega arith))
+power-le (suc i) zero h = omega arith
+power-le (suc i) (suc k) h = omega (arith, power-le i k (omega arith))
+
+-- a number of at most nine digits
+pub nine-digits : (n i : ℕ) → n < 10 ^ i → i ≤ 9 → n < 1000000000
+nine-digits n i h q = omega (arith, power-le i 9 q)
+
+pub one-digit-more : (n i d : ℕ) → n < 10 ^ i → d < 10 → n * 10 + d < 10 ^ (i + 1)
+one-digit-more n i d h q = rw (add-one i) (omega arith)

@@ -9,13 +9,14 @@ use mathlib.Core.Path.{_≡_, refl, sym, ap, _∙_}
 use mathlib.Core.Bool.{Bool, true, false, cond, _&&_, and-false}
 use mathlib.Core.List.{List, [], _∷_, _++_}
 use lib.ListN.{length, take, drop, getD, length-drop, length-take, take-append-drop}
-use lib.Seq.{drop-drop, take-all, take-length, take-take, length-take-le, getD-drop}
+use lib.Seq.{drop-drop, take-length, take-take, length-take-le, getD-drop}
 use lib.Dec.{eqb}
 use borrow.Author.Tests.{eq-eqb, ne-eqb, eqb-true, eqb-false}
 use Rattle.text.specs.Bytes.{part, is, first, count, afterLast}
 use Rattle.text.specs.Pattern.{startsWith}
-use Rattle.text.specs.Lines.{LF, CR, breaks, Line, front, linesFrom, lineEnd, lineNext, onto, pieces, piecesAfter}
+use Rattle.text.specs.Lines.{LF, CR, breaks, Line, front, linesFrom, lineEnd, lineNext, pieces, piecesAfter}
 use Rattle.text.proofs.BytesLaws.{after-le, after-hit, after-miss}
+use Rattle.text.proofs.SplitLaws.{split-step-at, split-last-at}
 
 -- a CR before an LF, by the bytes
 breaks-one : (x : ℕ) → breaks (x ∷ []) ≡ false
@@ -340,41 +341,17 @@ module _ (s : List ℕ) (a p b : ℕ) (e : b ≡ a + afterLast (is LF) (part a p
   pub lines-skipped-at : length (linesFrom a (part a b s)) ≡ count (is LF) (part a b s)
   lines-skipped-at = lines-skipped (drop a s) a (p - a) (b - a) (omega arith)
 
--- the pieces between LFs: the first one, and those after it
-pub pieces-step : (s : List ℕ) → first (is LF) s < length s → pieces s ≡ take (first (is LF) s) s ∷ pieces (drop (suc (first (is LF) s)) s)
-unfolding first pieces
-pieces-step [] h = absurd (not-suc-le-zero h)
-pieces-step (x ∷ s) h = go (eqb x LF) (λ k. pieces-step s k) h
-  where
-    q : ℕ
-    q = first (is LF) s
-
-    go : (a : Bool) → (q < length s → pieces s ≡ take q s ∷ pieces (drop (suc q) s)) → cond a 0 (suc q) < suc (length s)
-        → cond a ([] ∷ pieces s) (onto x (pieces s)) ≡ take (cond a 0 (suc q)) (x ∷ s) ∷ pieces (drop (cond a 0 (suc q)) s)
-    go true ih k = refl
-    go false ih k = ap (onto x) (ih (omega arith))
-
-pub pieces-last : (s : List ℕ) → first (is LF) s ≡ length s → pieces s ≡ s ∷ []
-unfolding first pieces
-pieces-last [] h = refl
-pieces-last (x ∷ s) h = go (eqb x LF) (λ k. pieces-last s k) h
-  where
-    go : (a : Bool) → (first (is LF) s ≡ length s → pieces s ≡ s ∷ []) → cond a 0 (suc (first (is LF) s)) ≡ suc (length s)
-        → cond a ([] ∷ pieces s) (onto x (pieces s)) ≡ (x ∷ s) ∷ []
-    go true ih k = absurd (omega arith)
-    go false ih k = ap (onto x) (ih (omega arith))
-
--- the same from place i on, where the piece ends at e
+-- the pieces from place i on, where the first ends at e
 pub pieces-at : (s : List ℕ) (i e : ℕ) → e ≤ length s → e ≡ i + first (is LF) (drop i s)
     → pieces (drop i s) ≡ part i e s ∷ piecesAfter (eqb e (length s)) e s
 pieces-at s i e k q = go (eqb e (length s)) refl
   where
     go : (a : Bool) → eqb e (length s) ≡ a → pieces (drop i s) ≡ part i e s ∷ piecesAfter a e s
-    go true p =
-        let z : e ≡ length s = eqb-true e (length s) p in
-        pieces-last (drop i s) (omega (arith, length-drop i s)) ∙ rw (take-all (e - i) (drop i s) (omega (arith, length-drop i s)))
+    go true p = split-last-at LF s i e (eqb-true e (length s) p) q
     go false p =
         let z : e ≡ length s → ⊥ = eqb-false e (length s) p in
-        let w : e - i ≡ first (is LF) (drop i s) = omega arith in
-        let v : e + 1 ≡ i + suc (first (is LF) (drop i s)) = omega arith in
-        pieces-step (drop i s) (omega (arith, length-drop i s)) ∙ rw (w, v, drop-drop)
+        split-step-at LF s i e (omega arith) q
+
+-- a piece that is not the last ends before the text
+pub before-end : {e n : ℕ} {last : Bool} → last ≡ eqb e n → last ≡ false → e ≤ n → e < n
+before-end {e} {n} p q h = let d : e ≡ n → ⊥ = eqb-false e n (sym p ∙ q) in omega arith

@@ -1,18 +1,19 @@
--- Laws of `specs/Pattern.antt`: patterns at the start of a text by its bytes, searches by their places, and what is found lies within.
+-- Laws of `specs/Pattern.antt`: patterns at the start of a text by its bytes, texts that are a pattern or end with it, searches by their places, and
+-- what is found lies within.
 -- Assumes nothing.
-use Prim.Native.Nat.{ℕ, suc, _+_, _-_, _≤_, _<_, zero-le}
+use Prim.Native.Nat.{ℕ, zero, suc, _+_, _-_, _≤_, _<_, zero-le}
 use native.Mathlib.Nat.{add-zero, add-assoc, zero-add, not-suc-le-zero}
 use native.Mathlib.Numerals.{add-one, one-add}
 use native.Mathlib.Omega.{arith}
 use mathlib.Core.Path.{_≡_, refl, sym, ap, _∙_, subst}
 use mathlib.Core.Bool.{Bool, true, false, cond, _&&_, false≢true}
 use mathlib.Core.List.{List, [], _∷_, _++_}
-use lib.ListN.{length, drop, getD, drop-of-length-le, length-drop}
-use lib.Seq.{drop-cons, drop-drop}
-use lib.Dec.{eqb, leb}
-use borrow.Author.Tests.{eq-eqb, ne-eqb, leb-true}
+use lib.ListN.{length, take, drop, getD, drop-of-length-le, take-append-drop, length-append, length-drop}
+use lib.Seq.{drop-cons, drop-drop, take-all, drop-append-seam}
+use lib.Dec.{eqb, leb, eqb·suc-zero}
+use borrow.Author.Tests.{eq-eqb, ne-eqb, eqb-true, leb-true, le-leb}
 use Rattle.text.specs.Bytes.{is, first, part}
-use Rattle.text.specs.Pattern.{startsWith, endsWith, find, later, isAt, contains}
+use Rattle.text.specs.Pattern.{startsWith, endsWith, equals, find, later, isAt, contains}
 use Rattle.text.specs.declared.pattern.Found.{Found}
 use Rattle.text.specs.declared.pattern.Found.the-variants.{At, Nothing}
 use Rattle.text.proofs.BytesLaws.{rest}
@@ -54,6 +55,70 @@ starts-long (b ∷ p) (x ∷ s) e = omega (arith, starts-long p s (and-right (eq
 pub ends-long : (p s : List ℕ) → endsWith p s ≡ true → length p ≤ length s
 unfolding endsWith
 ends-long p s e = leb-true _ _ (and-left (leb (length p) (length s)) (startsWith p (drop (length s - length p) s)) e)
+
+-- texts that begin with the pattern, are it, or end with it
+starts-take : (p s : List ℕ) → startsWith p s ≡ true → take (length p) s ≡ p
+unfolding startsWith
+starts-take [] s e = refl
+starts-take (b ∷ p) [] e = absurd (false≢true e)
+starts-take (b ∷ p) (x ∷ s) e =
+    let h : x ≡ b = eqb-true x b (and-left (eqb x b) (startsWith p s) e) in
+    rw (h, starts-take p s (and-right (eqb x b) (startsWith p s) e))
+
+starts-self : (s : List ℕ) → startsWith s s ≡ true
+unfolding startsWith
+starts-self [] = refl
+starts-self (x ∷ s) = rw (eq-eqb x x refl) (starts-self s)
+
+equals-same : (p s : List ℕ) → equals p s ≡ true → p ≡ s
+unfolding equals
+equals-same p s e =
+    let h : length s ≡ length p = eqb-true _ _ (and-left (eqb (length s) (length p)) (startsWith p s) e) in
+    sym (starts-take p s (and-right (eqb (length s) (length p)) (startsWith p s) e)) ∙ take-all (length p) s (omega arith)
+
+same-equals : (s : List ℕ) → equals s s ≡ true
+unfolding equals
+same-equals s = rw (eq-eqb (length s) (length s) refl) (starts-self s)
+
+-- a text is what stands from a place of it on just where that is its start
+pub equals-drop : (s : List ℕ) (i : ℕ) → i ≤ length s → equals s (drop i s) ≡ eqb i 0
+unfolding equals
+equals-drop s zero h = same-equals s
+equals-drop s (suc i) h = rw (ne-eqb (length (drop (suc i) s)) (length s) (λ e. omega (arith, length-drop (suc i) s)), eqb·suc-zero i)
+
+pub ends-drop : (p s : List ℕ) → endsWith p s ≡ true → drop (length s - length p) s ≡ p
+unfolding endsWith
+ends-drop p s e =
+    let t : List ℕ = drop (length s - length p) s in
+    let h : length p ≤ length s = ends-long p s e in
+    sym (take-all (length p) t (omega (arith, length-drop (length s - length p) s)))
+    ∙ starts-take p t (and-right (leb (length p) (length s)) (startsWith p t) e)
+
+pub ends-append : (s p : List ℕ) → endsWith p (s ++ p) ≡ true
+unfolding endsWith
+ends-append s p =
+    let n : length (s ++ p) ≡ length s + length p = length-append s p in
+    let k : length (s ++ p) - length p ≡ length s = omega arith in
+    let h : length p ≤ length (s ++ p) = omega arith in
+    rw (le-leb (length p) (length (s ++ p)) h, k, drop-append-seam s p) (starts-self p)
+
+-- a text that is no bytes before the pattern does not end with it, and is no text that does
+pub ends-not : (p s : List ℕ) → ((x : List ℕ) → x ++ p ≡ s → ⊥) → endsWith p s ≡ false
+ends-not p s h = go (endsWith p s) refl
+  where
+    n : ℕ
+    n = length s - length p
+
+    go : (b : Bool) → endsWith p s ≡ b → b ≡ false
+    go true e = absurd (h (take n s) (ap (λ (t : List ℕ). take n s ++ t) (sym (ends-drop p s e)) ∙ take-append-drop n s))
+    go false e = refl
+
+pub equals-not : (x p s : List ℕ) → endsWith p s ≡ false → equals s (x ++ p) ≡ false
+equals-not x p s h = go (equals s (x ++ p)) refl
+  where
+    go : (b : Bool) → equals s (x ++ p) ≡ b → b ≡ false
+    go true e = absurd (false≢true (sym h ∙ ap (endsWith p) (equals-same s (x ++ p) e) ∙ ends-append x p))
+    go false e = refl
 
 -- a search by its first place
 pub later-zero : (f : Found) → later 0 f ≡ f

@@ -5,6 +5,7 @@ use mathlib.Core.List.{List, [], _∷_, _++_}
 use lib.ListN.{drop}
 use lib.Dec.{eqb}
 use Rattle.text.specs.Pattern.{startsWith}
+use Rattle.text.specs.Split.{split}
 
 -- line feed and carriage return
 abbrev pub LF : ℕ
@@ -46,14 +47,9 @@ unfoldable pub lineNext : List ℕ → ℕ
 lineNext [] = 0
 lineNext (x ∷ s) = cond (eqb x LF) 1 (suc (lineNext s))
 
--- "A line stands between LFs": the pieces of a text as `split('\n')` gives them, one more than it has LFs
-abbrev pub onto : ℕ → List (List ℕ) → List (List ℕ)
-onto x [] = (x ∷ []) ∷ []
-onto x (l ∷ ls) = (x ∷ l) ∷ ls
-
-unfoldable pub pieces : List ℕ → List (List ℕ)
-pieces [] = [] ∷ []
-pieces (x ∷ s) = cond (eqb x LF) ([] ∷ pieces s) (onto x (pieces s))
+-- "A line stands between LFs": the pieces of a text as `split('\n')` gives them
+abbrev pub pieces : List ℕ → List (List ℕ)
+pieces s = split LF s
 
 -- the pieces that follow one which ends at place e, where the text has n bytes: none after the last
 abbrev pub piecesAfter : Bool → ℕ → List ℕ → List (List ℕ)

@@ -3,7 +3,12 @@ ghost use mathlib.Core.Path.{_≡_};
 ghost use Prim.Native.Nat.{_+_, _≤_, _<_};
 ghost use lib.ListN.{length};
 ghost use lib.Seq.{sets};
-ghost use Rattle.text.specs.Decimal.{decimal};
+ghost use Rattle.text.specs.Decimal.{decimal, numberOf};
+
+pub enum Number {
+    Is(usize),
+    NoNumber,
+}
 
 fn digit(n: usize) -> u8
     requires { ⌜ n < 10 ⌝ }
@@ -57,4 +62,25 @@ pub fn put(out: &mut [u8], at: usize, n: usize) -> usize
     }
     out[at] = digit(m);
     e
+}
+
+// The number that decimal digits make, if s has no other byte.
+pub fn parse(s: &[u8]) -> Number
+    requires { ⌜ length (now s) ≤ 9 ⌝ }
+    ensures { λ r. ⌜ r ≡ numberOf (now (s .entry)) ⌝ }
+{
+    let mut n: usize = 0;
+    let mut i = 0;
+    while i < s.len() {
+        let b = s[i];
+        if b < b'0' {
+            return Number::NoNumber;
+        }
+        if b'9' < b {
+            return Number::NoNumber;
+        }
+        n = n * 10 + (b - b'0') as usize;
+        i += 1;
+    }
+    Number::Is(n)
 }
