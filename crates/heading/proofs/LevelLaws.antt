@@ -4,11 +4,11 @@ use Prim.Native.Nat.{ℕ, zero, suc, _+_, _-_, _^_, _≤_, _<_, min}
 use native.Mathlib.Nat.{min-eq-left, min-eq-right}
 use native.Mathlib.Numerals.{add-one}
 use native.Mathlib.Omega.{arith}
-use mathlib.Core.Path.{_≡_, refl, sym, ap, _∙_}
+use mathlib.Core.Path.{_≡_, refl, ap, _∙_}
 use mathlib.Core.Bool.{Bool, true, false, cond}
 use mathlib.Core.List.{List, [], _∷_, _++_}
-use borrow.Author.Tests.{eqb-false, ltb-true, ltb-false, le-leb, lt-leb}
-use lib.Dec.{T, eqb, ltb}
+use borrow.Author.Tests.{ltb-true, ltb-false, le-leb, lt-leb}
+use lib.Dec.{T, ltb}
 use lib.IntN.{ℤ, pos, negsuc, _+ℤ_, _-ℤ_, natAbs}
 use lib.ListN.{length, set, replicate, length-replicate, replicate-append-replicate}
 use lib.Seq.{sets}
@@ -115,10 +115,6 @@ pub turn : (b : TopLevel) (st : WalkState) (l : List ℕ) (ls : List (List ℕ))
     → shallowestOf b' (kindsFrom st' ls) ≡ shallowestOf b (kindsFrom st ps)
 unfolding shallowestOf kindsFrom
 turn b st l ls p e f g = rw (p, g, f, e)
-
--- a piece that is not the last ends before the text
-pub before-end : {e n : ℕ} {last : Bool} → last ≡ eqb e n → last ≡ false → e ≤ n → e < n
-before-end {e} {n} p q h = let d : e ≡ n → ⊥ = eqb-false e n (sym p ∙ q) in omega arith
 
 -- no piece is left
 pub none-left : (b : TopLevel) (st : WalkState) → shallowestOf b (kindsFrom st []) ≡ b

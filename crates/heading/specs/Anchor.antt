@@ -6,6 +6,7 @@ use lib.ListN.{length}
 use lib.Dec.{eqb, leb}
 use mathlib.Core.Path.{_≡_}
 use Rattle.text.specs.Bytes.{part}
+use Rattle.text.specs.Decimal.{isDigit}
 use Rattle.text.specs.Space.{isSpace, trim}
 use Rattle.heading.specs.Contents.{lower}
 use Rattle.heading.specs.declared.anchor.AnchorCursor.{AnchorCursor}
@@ -43,9 +44,6 @@ plain s = plainFrom Written s
 -- letters and digits, `-` and `_` are kept
 abbrev pub isLetter : ℕ → Bool
 isLetter x = leb 0x61 x && leb x 0x7A
-
-abbrev pub isDigit : ℕ → Bool
-isDigit x = leb 0x30 x && leb x 0x39
 
 abbrev pub isKept : ℕ → Bool
 isKept x = (isLetter (lower x) || isDigit x) || (eqb x 0x2D || eqb x 0x5F)

@@ -8,10 +8,11 @@ use native.Mathlib.Omega.{arith}
 use lib.ListN.{length, drop}
 use Rattle.text.specs.Bytes.{part}
 use Rattle.text.specs.Lines.{pieces}
+use Rattle.text.proofs.LineLaws.{before-end}
 use Rattle.heading.specs.Walk.{begin, kindsFrom}
 use Rattle.heading.specs.Level.{shallowestOf}
 use Rattle.heading.specs.declared.level.TopLevel.the-variants.{NoHeading}
-use Rattle.heading.proofs.LevelLaws.{turn, before-end, none-left}
+use Rattle.heading.proofs.LevelLaws.{turn, none-left}
 use Rattle.heading.proofs.level.shallowest.Statement.{statement}
 use Rattle.heading.proofs.level.shallowest.Tie as tie
 
