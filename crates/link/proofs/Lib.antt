@@ -1,0 +1,4 @@
+pub mod PathLaws
+pub mod LinkLaws
+pub mod TargetLaws
+pub mod Checks
