@@ -15,6 +15,8 @@ use heading::level;
 use heading::walk;
 
 mod anchor;
+mod checks;
+mod links;
 mod number;
 
 // One step of the walk: the line's kind (0 other, 1 heading, 2 quoted), its level, where its text starts and ends, the fence after it (0 outside,

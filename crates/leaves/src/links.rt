@@ -1,0 +1,134 @@
+// Leaf calls on links and paths.
+ghost use mathlib.Core.Path.{_≡_};
+ghost use Prim.Native.Nat.{_-_, min};
+ghost use lib.ListN.{length, take};
+ghost use Rattle.text.specs.Bytes.{is, afterLast};
+ghost use Rattle.text.specs.Pattern.{equals as equalsTo};
+ghost use Rattle.link.specs.Path.{SLASH, resolve};
+ghost use Rattle.link.specs.Target.{targetOf, trimSlashes};
+ghost use Rattle.leaves.specs.Leaf.{one, bit, isOn};
+ghost use Rattle.leaves.specs.Link.{written, linkNumbers, NextAnswer, SelfAnswer, targetNumbers, newNumbers, NewAnswer};
+use crate::number;
+use link::links;
+use link::links::NextLink;
+use link::path;
+use link::target;
+use link::target::NewTarget;
+use link::target::Target;
+
+fn of_link(found: NextLink) -> [u64; 6]
+    ensures { λ r. ⌜ r ≡ linkNumbers found ⌝ }
+{
+    match found {
+        NextLink::Link { start, end } => [1, start as u64, end as u64, 0, 0, 0],
+        NextLink::NoLink => [0, 0, 0, 0, 0, 0],
+    }
+}
+
+fn of_target(found: Target) -> [u64; 6]
+    ensures { λ r. ⌜ r ≡ targetNumbers found ⌝ }
+{
+    match found {
+        Target::Untouched => [0, 0, 0, 0, 0, 0],
+        Target::Path(end) => [1, end as u64, 0, 0, 0, 0],
+    }
+}
+
+fn of_new(new: NewTarget) -> [u64; 6]
+    ensures { λ r. ⌜ r ≡ newNumbers new ⌝ }
+{
+    match new {
+        NewTarget::From(at) => [0, at as u64, 0, 0, 0, 0],
+        NewTarget::Title => [1, 0, 0, 0, 0, 0],
+        NewTarget::Outside(end) => [2, end as u64, 0, 0, 0, 0],
+    }
+}
+
+// The smaller of a number and a length.
+fn at_most(n: u64, length: usize) -> usize
+    ensures { λ r. ⌜ r ≡ min n length ⌝ }
+{
+    if n < length as u64 {
+        return n as usize;
+    }
+    length
+}
+
+// The first link of a line from a place on: 1 and where its target starts and ends, or 0.
+#[no_mangle]
+pub extern "C" fn leaf_link(line: &[u8], from: u64, answer: &mut [u64; 6])
+    ensures { λ _. ⌜ NextAnswer (now (line .entry)) from (now (answer .exit)) ⌝ }
+{
+    let found = links::next_link(line, at_most(from, line.len()));
+    *answer = of_link(found);
+}
+
+// How long the directory of a file is.
+#[no_mangle]
+pub extern "C" fn leaf_parent(name: &[u8], answer: &mut [u64; 6])
+    ensures { λ _. ⌜ now (answer .exit) ≡ one (afterLast (is SLASH) (now (name .entry)) - 1) ⌝ }
+{
+    let n = path::parent_dir(name);
+    *answer = number::one(n as u64);
+}
+
+// A path in a directory, once it is resolved: its bytes at the front of the output if there is room, and its length.
+#[no_mangle]
+pub extern "C" fn leaf_resolve(path: &[u8], dir: &[u8], out: &mut [u8], answer: &mut [u64; 6])
+    ensures { λ _. ⌜ now (answer .exit) ≡ one (length (resolve (now (dir .entry)) (now (path .entry)))) ⌝ }
+    ensures { λ _. ⌜ now (out .exit) ≡ written (resolve (now (dir .entry)) (now (path .entry))) (now (out .entry)) ⌝ }
+{
+    let n = path::resolved_length(path, dir);
+    if out.len() < n {
+        *answer = number::one(n as u64);
+        return;
+    }
+    path::put_resolved(path, dir, n, out);
+    *answer = number::one(n as u64);
+}
+
+// Whether a path in a directory, once it is resolved, is a name.
+#[no_mangle]
+pub extern "C" fn leaf_resolves(path: &[u8], dir: &[u8], name: &[u8], answer: &mut [u64; 6])
+    ensures { λ _. ⌜ now (answer .exit) ≡ one (bit (equalsTo (now (name .entry)) (resolve (now (dir .entry)) (now (path .entry))))) ⌝ }
+{
+    let b = path::resolves_to(path, dir, name);
+    *answer = number::one(number::of_bool(b));
+}
+
+// A target: 0 if it stays as it is, or 1 and where its path ends.
+#[no_mangle]
+pub extern "C" fn leaf_target(target: &[u8], answer: &mut [u64; 6])
+    ensures { λ _. ⌜ now (answer .exit) ≡ targetNumbers (targetOf (now (target .entry))) ⌝ }
+{
+    let found = target::read_target(target);
+    *answer = of_target(found);
+}
+
+// What a target becomes whose path ends at a place, where it names a member or not: 0 and the place from which on its bytes stay, 1 for the member's
+// title, or 2 and the place where its path ends.
+#[no_mangle]
+pub extern "C" fn leaf_rewrite(target: &[u8], end: u64, member: u64, answer: &mut [u64; 6])
+    ensures { λ _. ⌜ NewAnswer (now (target .entry)) end (isOn member) (now (answer .exit)) ⌝ }
+{
+    let new = target::rewrite_target(target, at_most(end, target.len()), member != 0);
+    *answer = of_new(new);
+}
+
+// From which place on a target's bytes stay in a file that is taken into a host.
+#[no_mangle]
+pub extern "C" fn leaf_self(target: &[u8], dir: &[u8], host: &[u8], answer: &mut [u64; 6])
+    ensures { λ _. ⌜ SelfAnswer (now (host .entry)) (now (dir .entry)) (now (target .entry)) (now (answer .exit)) ⌝ }
+{
+    let n = target::anchor_self(target, dir, host);
+    *answer = number::one(n as u64);
+}
+
+// How long a URL is without trailing `/`.
+#[no_mangle]
+pub extern "C" fn leaf_url(url: &[u8], answer: &mut [u64; 6])
+    ensures { λ _. ⌜ now (answer .exit) ≡ one (length (trimSlashes (now (url .entry)))) ⌝ }
+{
+    let n = target::url_length(url);
+    *answer = number::one(n as u64);
+}
