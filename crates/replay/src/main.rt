@@ -1,4 +1,4 @@
-// Scans the stored cases of standard input and prints each answer: the six numbers, then the listing if the text was accepted.
+// Scans the stored cases of standard input and prints each answer: the six numbers, the listing if the text was accepted, and the outline if it is ASCII.
 ghost use mathlib.Core.Path.{_≡_};
 ghost use Prim.Native.Nat.{_≤_};
 ghost use lib.ListN.{length};
@@ -6,25 +6,14 @@ use answer::Answer;
 use header::Header;
 use libc::STDIN_FILENO;
 use libc::STDOUT_FILENO;
+use text::ascii;
 
 mod header;
+mod outline;
+mod print;
 
 // The loop over the cases has to end, and nothing says that the input does.
 const MOST_CASES: usize = 100_000;
-
-fn print_tabbed(number: u64) {
-    io::write_all(STDOUT_FILENO, b"\t");
-    io::print_decimal(STDOUT_FILENO, number);
-}
-
-// The numbers with tabs between them, and LF.
-fn print_numbers(numbers: [u64; 6]) {
-    io::print_decimal(STDOUT_FILENO, numbers[0]);
-    for i in 1..6 {
-        print_tabbed(numbers[i]);
-    }
-    io::write_all(STDOUT_FILENO, b"\n");
-}
 
 // Writes that the input is damaged. Nothing is read after that.
 fn print_ill_formed() {
@@ -38,7 +27,7 @@ fn text_buffer() -> [u8; 16384]
     [0; 16384]
 }
 
-// Fills the text from the input, scans it and prints the answer. Answers whether all of the text was there.
+// Fills the text from the input, scans it and prints the answer and the outline. Answers whether all of the text was there.
 fn replay_text(text: &mut [u8], out: &mut [u8]) -> bool {
     let n = io::read_full(STDIN_FILENO, text);
     if n < text.len() {
@@ -46,9 +35,12 @@ fn replay_text(text: &mut [u8], out: &mut [u8]) -> bool {
         return false;
     }
     let a = marker::scan(text, out);
-    print_numbers(answer::numbers(a));
+    print::numbers(answer::numbers(a));
     if let Answer::Accepted { length, files: _ } = a {
         io::write_all(STDOUT_FILENO, &out[..length]);
+    }
+    if ascii::wide_line(text) == 0 {
+        outline::print(text);
     }
     true
 }

@@ -25,8 +25,8 @@ scan-requires c κs = search needs
 numbers-requires : tie.Need-numbers-requires
 numbers-requires c κs = search needs
 
-print-numbers-requires : tie.Need-print-numbers-requires
-print-numbers-requires c κs = search needs
+numbers-requires-2 : tie.Need-numbers-requires-2
+numbers-requires-2 c κs = search needs
 
 enum-known-a : tie.Need-enum-known-a
 enum-known-a c = search needs
@@ -44,6 +44,12 @@ slice-aggregate-write-all c =
 
 write-all-requires : tie.Need-write-all-requires
 write-all-requires c κs = search needs
+
+wide-line-requires : tie.Need-wide-line-requires
+wide-line-requires c κs = search needs
+
+print-requires : tie.Need-print-requires
+print-requires c κs = search needs
 
 same-length-2 : tie.Need-same-length-2
 same-length-2 c = search needs
@@ -73,11 +79,13 @@ replay-text-spec =
     returns
     scan-requires
     numbers-requires
-    print-numbers-requires
+    numbers-requires-2
     enum-known-a
     slice-reshare-prefix-write-all
     slice-aggregate-write-all
     write-all-requires
+    wide-line-requires
+    print-requires
     same-length-2
     same-length-3
     returns-2

@@ -25,23 +25,23 @@ returns-2 c = rw (eq-eqb _ 0x20 (c .before .if1 .left), ne-eqb _ 0x0a (c .if2 .t
 array-share-prefix-s : tie.Need-array-share-prefix-s
 array-share-prefix-s c = search needs
 
-slice-aggregate-digits : tie.Need-slice-aggregate-digits
-slice-aggregate-digits c = sym (length-take-le 6 (c .before .before .before .args .t1) (omega arith))
+slice-aggregate-parse : tie.Need-slice-aggregate-parse
+slice-aggregate-parse c = sym (length-take-le 6 (c .before .before .before .args .t1) (omega arith))
 
-digits-requires : tie.Need-digits-requires
-digits-requires c κs = omega (arith, length-take-le 6 (c .before .before .before .args .t1) (omega arith))
+parse-requires : tie.Need-parse-requires
+parse-requires c κs = omega (arith, length-take-le 6 (c .before .before .before .args .t1) (omega arith))
 
-sub-digits : tie.Need-sub-digits
-sub-digits c = search needs
+sub-parse : tie.Need-sub-parse
+sub-parse c = search needs
 
-part-digits-start : tie.Need-part-digits-start
-part-digits-start c = search needs
+part-parse-start : tie.Need-part-parse-start
+part-parse-start c = search needs
 
-part-digits-end : tie.Need-part-digits-end
-part-digits-end c = search needs
+part-parse-end : tie.Need-part-parse-end
+part-parse-end c = search needs
 
-digits-requires-2 : tie.Need-digits-requires-2
-digits-requires-2 c κs = search needs
+parse-requires-2 : tie.Need-parse-requires-2
+parse-requires-2 c κs = search needs
 
 case-of-requires : tie.Need-case-of-requires
 case-of-requires c κs = search needs
@@ -51,7 +51,7 @@ unfolding headerOf
 returns-3 c =
     let space = eq-eqb _ 0x20 (c .before .before .before .before .before .before .before .if1 .left) in
     let feed = eq-eqb _ 0x0a (c .before .before .before .before .before .before .if2 .left) in
-    rw (space, feed, ← c .before .before .before .before .digits .ensures, ← c .before .digits2 .ensures) (c .case-of .ensures)
+    rw (space, feed, ← c .before .before .before .before .parse .ensures, ← c .before .parse2 .ensures) (c .case-of .ensures)
 
 pub parse-spec : {M : Type 1} → statement M
 parse-spec =
@@ -62,11 +62,11 @@ parse-spec =
     array-read-if2
     returns-2
     array-share-prefix-s
-    slice-aggregate-digits
-    digits-requires
-    sub-digits
-    part-digits-start
-    part-digits-end
-    digits-requires-2
+    slice-aggregate-parse
+    parse-requires
+    sub-parse
+    part-parse-start
+    part-parse-end
+    parse-requires-2
     case-of-requires
     returns-3)
