@@ -1,66 +1,153 @@
-//! Compares the leaf functions with the Rust on generated texts and titles.
+//! Compares the leaf functions with the Rust on generated texts, titles, paths
+//! and links, and on generated file sets with the refusals of document 01.
 
 mod leaf;
 
 use jilgyemot_host::comparison::{Options, report};
 use jilgyemot_host::headed::{Headed, Titles};
+use jilgyemot_host::indexed::Inputs;
+use jilgyemot_host::linked::{Lines, Paths};
+use jilgyemot_host::refusals::Input;
 use jilgyemot_host::shrink::shrink;
-use leaf::{Outcome, levels, members, titles, walk};
+use leaf::checks::Checks;
+use leaf::links::{self, Links};
+use leaf::{Outcome, levels, members, paths, titles, walk};
 
 fn ascii(text: &[u8]) -> &str {
     str::from_utf8(text).expect("generated texts are ASCII")
 }
 
-fn check_text(text: &[u8]) -> Outcome {
-    let text = ascii(text);
-    Ok(walk::check(text)? + levels::check(text)? + members::check(text)?)
-}
-
-fn check_title(title: &[u8]) -> Outcome {
-    titles::check(ascii(title))
-}
-
-/// Two titles, with a line feed between them.
-fn check_titles(both: &[u8]) -> Outcome {
-    let (s, t) = ascii(both).split_once('\n').unwrap_or_default();
-    titles::check_two(s, t)
-}
-
-/// Checks a text, and makes it short if something is wrong.
-fn checked(text: Vec<u8>, check: fn(&[u8]) -> Outcome) -> Outcome {
-    let outcome = check(&text);
+/// Checks a case, and makes its texts short if something is wrong.
+fn checked<const N: usize>(
+    names: [&str; N],
+    mut texts: [Vec<u8>; N],
+    mut check: impl FnMut(&[Vec<u8>; N]) -> Outcome,
+) -> Outcome {
+    let outcome = check(&texts);
     let Err(mut wrong) = outcome else { return outcome };
-    let mut shortest = text.clone();
-    shrink(text, |text| match check(text) {
-        Ok(_) => false,
-        Err(again) => {
+    for which in (0..N).chain(0..N) {
+        let mut shorter = texts.clone();
+        shrink(texts[which].clone(), |text| {
+            shorter[which] = text.to_vec();
+            let Err(again) = check(&shorter) else { return false };
             wrong = again;
-            shortest = text.to_vec();
+            texts[which] = text.to_vec();
             true
-        }
-    });
-    Err(format!("{}\n{wrong}", shortest.escape_ascii()))
+        });
+    }
+    let texts = names.iter().zip(&texts);
+    let shown: String =
+        texts.map(|(name, text)| format!("\n{name} {}", text.escape_ascii())).collect();
+    Err(format!("{shown}\n{wrong}"))
 }
 
+/// The cases of a run, and what they covered.
+struct Run {
+    headed: Headed,
+    titles: Titles,
+    title_before: Vec<u8>,
+    paths: Paths,
+    lines: Lines,
+    links: Links,
+    inputs: Inputs,
+    checks: Checks,
+}
+
+/// How many parts a run has.
+const PARTS: usize = 5;
+
+impl Run {
+    fn new(seed: u64) -> Self {
+        Run {
+            headed: Headed::new(seed),
+            titles: Titles::new(seed),
+            title_before: Vec::new(),
+            paths: Paths::new(seed),
+            lines: Lines::new(seed),
+            links: Links::default(),
+            inputs: Inputs::new(seed),
+            checks: Checks::default(),
+        }
+    }
+
+    /// The next cases of a part.
+    fn next(&mut self, part: usize) -> Outcome {
+        match part {
+            0 => self.next_text(),
+            1 => self.next_title(),
+            2 => self.next_path(),
+            3 => self.next_line(),
+            _ => self.next_input(),
+        }
+    }
+
+    fn next_text(&mut self) -> Outcome {
+        checked(["text"], [self.headed.next()], |[text]| {
+            let text = ascii(text);
+            Ok(walk::check(text)? + levels::check(text)? + members::check(text)?)
+        })
+    }
+
+    /// A title by itself, with one that is near, and with the one before it.
+    fn next_title(&mut self) -> Outcome {
+        let title = self.titles.next();
+        let near = self.titles.near(&title);
+        let before = std::mem::replace(&mut self.title_before, title.clone());
+        let mut count = checked(["title"], [title.clone()], |[title]| titles::check(ascii(title)))?;
+        for other in [near, before] {
+            let check = |[s, t]: &[Vec<u8>; 2]| titles::check_two(ascii(s), ascii(t));
+            count += checked(["title", "other"], [title.clone(), other], check)?;
+        }
+        Ok(count)
+    }
+
+    fn next_path(&mut self) -> Outcome {
+        checked(["path", "directory"], self.paths.next(), |[path, dir]| {
+            paths::check(ascii(path), ascii(dir))
+        })
+    }
+
+    fn next_line(&mut self) -> Outcome {
+        let (line, setting) = self.lines.next();
+        checked(["line"], [line], |[line]| self.links.check(ascii(line), &setting))
+    }
+
+    fn next_input(&mut self) -> Outcome {
+        let names = ["index", "contents", "host's name", "host", "list", "URL"];
+        let (texts, sizes) = self.inputs.next();
+        checked(names, texts, |[index, contents, name, text, list, url]| {
+            self.checks.check(&Input { index, contents, name, text, list, url, sizes })
+        })
+    }
+
+    fn print_covered(&self) {
+        println!("all texts of up to {} parts", self.headed.parts.complete());
+        println!("all texts of up to {} whole lines", self.headed.lines.complete());
+        println!("all titles of up to {} parts", self.titles.parts.complete());
+        println!("all paths in directories, up to {} parts together", self.paths.complete());
+        println!("all lines of up to {} parts", self.lines.parts.complete());
+        println!("all lines of up to {} whole links", self.lines.links.complete());
+        println!("all indexes of up to {} parts", self.inputs.parts.complete());
+        println!("all indexes of up to {} whole lines", self.inputs.lines.complete());
+        println!("all lists of up to {} whole lines", self.inputs.lists.complete());
+        println!("{}", self.links);
+        println!("{}", self.checks);
+    }
+}
+
+/// Each part has about as many cases as the others.
 fn run(options: &Options) -> Outcome {
     let more = options.more();
-    let mut headed = Headed::new(options.seed);
-    let mut titles = Titles::new(options.seed);
-    let mut before = Vec::new();
-    let mut cases = levels::check_all()?;
-    while more(cases) {
-        cases += checked(headed.next(), check_text)?;
-        let title = titles.next();
-        let near = titles.near(&title);
-        cases += checked([&title[..], b"\n", &near].concat(), check_titles)?;
-        cases += checked([&title[..], b"\n", &before].concat(), check_titles)?;
-        cases += checked(title.clone(), check_title)?;
-        before = title;
+    let mut run = Run::new(options.seed);
+    let mut cases = [0; PARTS];
+    cases[0] += levels::check_all()?;
+    cases[3] += links::check_all()?;
+    while more(cases.iter().sum()) {
+        let least = (0..PARTS).min_by_key(|&part| cases[part]).unwrap_or(0);
+        cases[least] += run.next(least)?;
     }
-    println!("all texts of up to {} parts", headed.parts.complete());
-    println!("all texts of up to {} whole lines", headed.lines.complete());
-    println!("all titles of up to {} parts", titles.parts.complete());
-    Ok(cases)
+    run.print_covered();
+    Ok(cases.iter().sum())
 }
 
 fn main() {

@@ -14,10 +14,14 @@ impl Exhaustive {
 
     /// The next text, those of fewer tokens first.
     pub fn next(&mut self) -> Vec<u8> {
-        let tokens: Vec<&str> = self.tokens.iter().map(|&token| self.alphabet[token]).collect();
-        let text = tokens.join(self.separator);
+        self.next_tokens().join(self.separator).into_bytes()
+    }
+
+    /// The tokens of the next text.
+    pub fn next_tokens(&mut self) -> Vec<&'static str> {
+        let tokens = self.tokens.iter().map(|&token| self.alphabet[token]).collect();
         self.advance();
-        text.into_bytes()
+        tokens
     }
 
     fn advance(&mut self) {

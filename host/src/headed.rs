@@ -134,7 +134,7 @@ fn part(
     if random.one_in(often) { random.pick(near) } else { random.pick(parts) }
 }
 
-fn random_title(random: &mut Random) -> String {
+pub fn random_title(random: &mut Random) -> String {
     let mut title = String::new();
     for _ in 0..random.below(10) {
         title.push_str(part(&TITLE_PARTS, &NEAR_TITLE_PARTS, 3, random));

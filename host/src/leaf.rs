@@ -1,8 +1,11 @@
-//! The leaf functions beside the Rust, one file for each part of it.
+//! The leaf functions beside the Rust and document 01, a file for each part.
 
+pub mod checks;
 pub mod levels;
 pub mod library;
+pub mod links;
 pub mod members;
+pub mod paths;
 pub mod titles;
 pub mod walk;
 
@@ -11,11 +14,23 @@ use std::fmt::Debug;
 /// How many answers were compared, or what is wrong.
 pub type Outcome = Result<u64, String>;
 
-/// One answer of both.
-pub fn same<T: PartialEq + Debug>(what: &str, rust: T, leaf: T) -> Outcome {
-    if rust == leaf { Ok(1) } else { Err(format!("{what}\nRust {rust:?}\nleaf {leaf:?}")) }
+/// One answer, as it has to be and as a leaf gives it.
+pub fn same<T: PartialEq + Debug>(what: &str, expected: T, leaf: T) -> Outcome {
+    if expected == leaf {
+        return Ok(1);
+    }
+    Err(format!("{what}\nexpected {expected:?}\nleaf     {leaf:?}"))
 }
 
-pub fn lines_of(text: &str) -> Vec<String> {
-    text.split('\n').map(str::to_string).collect()
+/// The same for bytes.
+pub fn same_bytes(what: &str, expected: &[u8], leaf: &[u8]) -> Outcome {
+    if expected == leaf {
+        return Ok(1);
+    }
+    Err(format!("{what}\nexpected {}\nleaf     {}", expected.escape_ascii(), leaf.escape_ascii()))
+}
+
+/// An answer that is one number.
+pub fn one(number: u64) -> library::Answer {
+    [number, 0, 0, 0, 0, 0]
 }

@@ -1,12 +1,17 @@
 //! What the host programs share. Nothing here calls the library, so the
 //! stored cases are made without it.
 
+pub mod anchor;
 pub mod answer;
 pub mod comparison;
 pub mod exhaustive;
 pub mod generate;
 pub mod headed;
+pub mod indexed;
+pub mod linked;
 pub mod notes;
 pub mod oracle;
+pub mod outline;
 pub mod random;
+pub mod refusals;
 pub mod shrink;

@@ -9,6 +9,7 @@ use std::path::Path;
 use jilgyemot_host::generate::{damaged, marked, straddling};
 use jilgyemot_host::notes::{marker_in_each_line, notes};
 use jilgyemot_host::oracle::Expected;
+use jilgyemot_host::outline::outline;
 use jilgyemot_host::random::Random;
 
 const USAGE: &str = "usage: record FOLDER --examples FILE";
@@ -53,6 +54,15 @@ const PROBLEMS: [&str; 10] = [
 /// Shows after each line whether the scan is in a fence there.
 const MARKED_LINE: &str = "<!--[k]-->v<!--[/]-->\n";
 
+/// Headings of hand-written contents, and one that is none.
+const CONTENTS: &str = "# Contents\n\
+    ## table of contents\n\
+    ###### TABLE OF CONTENTS\t \r\n\
+    # contents *\n";
+
+/// `replay` writes an anchor in blocks of 64 bytes.
+const ANCHOR_LENGTHS: [usize; 5] = [63, 64, 65, 128, 200];
+
 /// What opens a region; the last four are problem 3.
 const OPENERS: [&str; 11] = [
     "<!--[fragment:a]-->",
@@ -94,6 +104,10 @@ impl Cases {
         self.stdin.extend(text);
         self.stdout.extend(format!("{answer}\n").bytes());
         self.stdout.extend(expected.written(size));
+        if text.is_ascii() {
+            let text = str::from_utf8(text).expect("ASCII is UTF-8");
+            self.stdout.extend(outline(text).bytes());
+        }
     }
 
     /// Once with room to spare, and once with exactly enough, one byte too
@@ -131,22 +145,27 @@ fn add_document_examples(cases: &mut Cases) {
     cases.add(b"a\n\xe9\n", 64);
 }
 
-/// CommonMark's examples of fenced code blocks, as they are and with the marked
-/// line after each of their lines.
+/// CommonMark's examples of headings and of fenced code blocks, the latter also
+/// with the marked line after each of their lines.
 fn add_commonmark(examples: &str, cases: &mut Cases) -> Option<()> {
     for object in json::objects(examples)? {
         let field = |name: &str| Some(&object.iter().find(|(found, _)| found == name)?.1);
-        if field("section")? != "4.5" {
-            continue;
-        }
         let markdown = field("markdown")?;
-        let marked: String =
-            markdown.split_inclusive('\n').map(|line| line.to_string() + MARKED_LINE).collect();
-        for text in [markdown, &marked] {
-            cases.add(text.as_bytes(), AMPLE);
+        cases.add(markdown.as_bytes(), AMPLE);
+        if field("section")? == "4.5" {
+            let marked: String =
+                markdown.split_inclusive('\n').map(|line| line.to_string() + MARKED_LINE).collect();
+            cases.add(marked.as_bytes(), AMPLE);
         }
     }
     Some(())
+}
+
+fn add_headings(cases: &mut Cases) {
+    cases.add(CONTENTS.as_bytes(), AMPLE);
+    let title = |length| "Ab1-xyz".chars().cycle().take(length).collect::<String>();
+    let long = ANCHOR_LENGTHS.map(|length| format!("# {}\n", title(length)));
+    cases.add(long.concat().as_bytes(), AMPLE);
 }
 
 fn add_differences(cases: &mut Cases) -> Option<()> {
@@ -248,6 +267,7 @@ fn main() -> std::io::Result<()> {
     let mut cases = Cases::default();
     add_document_examples(&mut cases);
     add_commonmark(&fs::read_to_string(examples)?, &mut cases).expect("a list of examples");
+    add_headings(&mut cases);
     add_differences(&mut cases).expect("a list of named cases");
     add_generated(&mut cases);
     fs::write(Path::new(folder).join("stdin"), cases.stdin)?;

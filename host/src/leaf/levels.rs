@@ -1,15 +1,16 @@
 //! Levels: the shallowest of a text, and what its headings become.
 
 use doc_gen::assembly::{self, Heading};
+use jilgyemot_host::outline::lines_of;
 
-use super::{Outcome, library, lines_of, same, walk};
+use super::{Outcome, library, one, same, walk};
 
 pub fn check(text: &str) -> Outcome {
     let lines = lines_of(text);
     let (found, _) = assembly::headings(&lines);
     let found: Vec<&Heading> = found.iter().collect();
     let top = assembly::shallowest(&found).unwrap_or(0) as u64;
-    let mut count = same("shallowest", [top, 0, 0, 0, 0, 0], library::shallowest(text.as_bytes()))?;
+    let mut count = same("shallowest", one(top), library::shallowest(text.as_bytes()))?;
     for target in 1..=7 {
         let shift = assembly::shift_to(&found, target);
         let mut rust = lines.clone();
@@ -64,7 +65,7 @@ pub fn check_all() -> Outcome {
 
 fn rust_moved(target: u64, top: u64, level: u64) -> library::Answer {
     if !(1..=7).contains(&target) || top > 6 || !(1..=7).contains(&level) {
-        return [2, 0, 0, 0, 0, 0];
+        return one(2);
     }
     let heading = |level: u64| Heading { index: 0, level: level as usize, text: "x".to_string() };
     let found = heading(top);

@@ -1,8 +1,9 @@
 //! Hand-written contents: one member, assembled by the Rust and by the leaves.
 
 use doc_gen::assembly::{self, Member};
+use jilgyemot_host::outline::lines_of;
 
-use super::{Outcome, levels, library, lines_of, same, walk};
+use super::{Outcome, levels, library, same, walk};
 
 /// A refusal for a member without a title, which is of no line.
 const NO_TITLE: usize = 0;

@@ -1,31 +1,28 @@
 //! Anchors: of a title, through a link to its member, and of two headings,
 //! through the check that no two members share one.
 
-use doc_gen::assembly::{self, Member};
+use doc_gen::assembly;
+use jilgyemot_host::anchor::{self, FIRST, assemble};
 
-use super::{Outcome, library, same};
+use super::{Outcome, library, one, same, same_bytes};
 
-/// Titles that no generated text has the anchor of.
-const FIRST: &str = "# q8q8q8";
+/// A title that, like `FIRST`, no generated text has the anchor of.
 const SECOND: &str = "# z9z9z9";
 
-/// A heading's text. A heading of hand-written contents is dropped, so its
-/// anchor cannot be seen.
-fn heading_text(title: &str) -> Option<String> {
-    let line = format!("# {title}");
-    let (found, _) = assembly::headings(std::slice::from_ref(&line));
-    let dropped = library::drops(0, line.as_bytes())[0] == 1;
-    found.into_iter().next().filter(|_| !dropped).map(|found| found.text)
+/// The text of a title's heading.
+fn heading_text(title: &str) -> String {
+    let (found, _) = assembly::headings(&[format!("# {title}")]);
+    found.into_iter().next().expect("a hash and a space begin a heading").text
 }
 
-fn assemble(first: String, second: String) -> Result<String, String> {
-    let member = |path: &str, text| Member { path: path.to_string(), text };
-    assembly::assemble(&[member("a.md", first), member("b.md", second)], "r")
+/// Whether a title is one of hand-written contents.
+fn is_dropped(title: &str) -> bool {
+    library::drops(0, format!("# {title}").as_bytes())[0] == 1
 }
 
 pub fn check(title: &str) -> Outcome {
-    let Some(text) = heading_text(title) else { return Ok(0) };
-    let slug = rust_slug(title)?;
+    let text = heading_text(title);
+    let slug = anchor::slug(title)?;
     let mut count = 0;
     for size in [slug.len() + 3, slug.len(), slug.len() / 2, 0] {
         let pattern = 0xA5;
@@ -33,29 +30,23 @@ pub fn check(title: &str) -> Outcome {
         let answer = library::anchor(text.as_bytes(), &mut out);
         let room = size.min(slug.len());
         let expected = [&slug.as_bytes()[..room], &vec![pattern; size - room]].concat();
-        count += same("the anchor's length", [slug.len() as u64, 0, 0, 0, 0, 0], answer)?;
-        count += same(
-            "the anchor",
-            expected.escape_ascii().to_string(),
-            out.escape_ascii().to_string(),
-        )?;
+        count += same("the anchor's length", one(slug.len() as u64), answer)?;
+        count += same_bytes("the anchor", &expected, &out)?;
     }
     Ok(count)
 }
 
-fn rust_slug(title: &str) -> Result<String, String> {
-    let text = assemble(format!("{FIRST}\n[x](b.md)"), format!("# {title}"))?;
-    let link = text.lines().nth(1).and_then(|line| line.strip_prefix("[x](#")?.strip_suffix(')'));
-    Ok(link.ok_or_else(|| format!("no link in {text:?}"))?.to_string())
-}
-
-/// Two headings in two members, where they share an anchor or not.
+/// Two headings in two members, where they share an anchor or not. The Rust
+/// does not compare headings that it drops.
 pub fn check_two(s: &str, t: &str) -> Outcome {
-    let (Some(a), Some(b)) = (heading_text(s), heading_text(t)) else { return Ok(0) };
+    if is_dropped(s) || is_dropped(t) {
+        return Ok(0);
+    }
+    let (a, b) = (heading_text(s), heading_text(t));
     let rust = match assemble(format!("{FIRST}\n# {s}"), format!("{SECOND}\n# {t}")) {
         Ok(_) => 0,
         Err(refusal) if refusal.contains("' is a heading in both a.md:2 and b.md:2.") => 1,
         Err(refusal) => return Err(refusal),
     };
-    same("a shared anchor", [rust, 0, 0, 0, 0, 0], library::same_anchor(a.as_bytes(), b.as_bytes()))
+    same("a shared anchor", one(rust), library::same_anchor(a.as_bytes(), b.as_bytes()))
 }

@@ -1,9 +1,10 @@
 //! The walk: the headings and quoted lines of a text, and each step by itself.
 
 use doc_gen::assembly;
+use jilgyemot_host::outline::{lines_of, text_place};
 
 use super::library::{self, Answer};
-use super::{Outcome, lines_of, same};
+use super::{Outcome, same};
 
 /// Index, level and text of a heading.
 pub type Found = (usize, usize, String);
@@ -68,8 +69,7 @@ fn rust_step(before: &[&str], line: &str) -> (Answer, String) {
     let (fence, comment) = state_after(&lines);
     match found.last() {
         Some((index, level, text)) if *index == before.len() => {
-            let start = line.len() - line[*level..].trim_start().len();
-            let end = start + text.len();
+            let (start, end) = text_place(line, *level, text);
             ([1, *level as u64, start as u64, end as u64, fence, comment], text.clone())
         }
         _ => {
