@@ -1,17 +1,17 @@
 -- Laws of `specs/Split.antt`: the pieces of a text from the first one on and from the last one back, and how many they are.
 -- Assumes nothing.
-use Prim.Native.Nat.{ℕ, zero, suc, _+_, _-_, _≤_, _<_}
+use Prim.Native.Nat.{ℕ, zero, suc, _+_, _-_, _<_}
 use native.Mathlib.Nat.{not-suc-le-zero}
 use native.Mathlib.Omega.{arith}
 use native.Mathlib.Numerals.{sub-one}
-use mathlib.Core.Path.{_≡_, refl, sym, ap, _∙_}
+use mathlib.Core.Path.{_≡_, refl, ap, _∙_}
 use mathlib.Core.Bool.{Bool, true, false, cond}
 use mathlib.Core.List.{List, [], _∷_, _++_}
-use lib.ListN.{length, take, drop, length-append, length-drop}
+use lib.ListN.{length, take, drop, length-drop}
 use lib.Seq.{drop-drop, take-all}
 use lib.Dec.{eqb}
 use Rattle.text.specs.Bytes.{part, is, first, afterLast, count}
-use Rattle.text.specs.Split.{onto, split, join}
+use Rattle.text.specs.Split.{onto, split}
 
 -- where the last byte stands, by the first byte and the rest
 abbrev behind : Bool → ℕ → ℕ
