@@ -9,7 +9,11 @@ use Rattle.heading.specs.Anchor.{shows, then, plainFrom, anchorOf, slug}
 use Rattle.heading.specs.declared.walk.LineKind.the-variants.{Other}
 
 -- K2 `#include` and seven hashes: no heading. K3 `Rating & Datum` gives `rating--datum`. K4 `[Rod](a.md) *q_1*`: `rod-q1`
-pub checks : ((headingOf (bytes "#include") ≡ Other) × (headingOf (bytes "####### a") ≡ Other))
+abbrev pub Checks : Type 0
+Checks =
+    ((headingOf (bytes "#include") ≡ Other) × (headingOf (bytes "####### a") ≡ Other))
     × ((slug (bytes "Rating & Datum") ≡ bytes "rating--datum") × (slug (bytes "[Rod](a.md) *q_1*") ≡ bytes "rod-q1"))
+
+pub checks : Checks
 unfolding first afterLast startsWith isSpace lead kept trimStart trimEnd trim hashes headingOf lower shows then plainFrom anchorOf slug
 checks = ((refl, refl), (refl, refl))

@@ -11,9 +11,13 @@ use Rattle.link.specs.Path.{parentDir, step, walked, resolve}
 use Rattle.link.specs.Target.{targetOf, rewriteTarget}
 
 -- K5 `../../a.md` in `docs`: `a.md`. K12 URL `https://h/`, member `docs/a.md`, `../c.md#k`: `https://h/blob/main/c.md#k`
-pub checks : (resolve (bytes "docs") (bytes "../../a.md") ≡ bytes "a.md")
+abbrev pub Checks : Type 0
+Checks =
+    (resolve (bytes "docs") (bytes "../../a.md") ≡ bytes "a.md")
     × ((title : List ℕ)
     → rewriteTarget (λ name. cond (equals (bytes "docs/a.md") name) (some title) none) (bytes "https://h/") (parentDir (bytes "docs/a.md")) (bytes "../c.md#k")
     ≡ bytes "https://h/blob/main/c.md#k")
+
+pub checks : Checks
 unfolding first afterLast startsWith equals find split join step walked resolve targetOf rewriteTarget
 checks = (refl, λ title. refl)

@@ -18,6 +18,10 @@ abbrev pub rows : String
 rows = "span\t2\t19\t28\t32\t35\nregion\t3\t5\t61\t65\t1\nproblem\t6\t6\n"
 
 -- K1 this listing; K6 `<!--[fragment:a:b]-->`: problem 3
-pub checks : (listing (bytes stage) ≡ bytes rows) × (listing (bytes "<!--[fragment:a:b]-->") ≡ bytes "problem\t1\t3\n")
+abbrev pub Checks : Type 0
+Checks =
+    (listing (bytes stage) ≡ bytes rows) × (listing (bytes "<!--[fragment:a:b]-->") ≡ bytes "problem\t1\t3\n")
+
+pub checks : Checks
 unfolding first afterLast startsWith endsWith equals find isSpace lead kept trimStart trimEnd trim breaks linesFrom digits decimal isFence pathOf namedOf restOf aloneOf fragmentOf textOf specOf markOf firstOf nextMark fragmentKind markedKind kindOf readBy readFrom readLine spanEvents eventsOf after kindAt lastOf scanFrom scan cells row spanRows regionRows problemRows listing
 checks = (refl, refl)
