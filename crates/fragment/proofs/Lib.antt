@@ -1,0 +1,4 @@
+pub mod GrowLaws
+pub mod ChainLaws
+pub mod Paths
+pub mod Checks

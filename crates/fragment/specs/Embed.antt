@@ -1,0 +1,36 @@
+-- Document 01, "Fill": embedding a filled file in its host.
+use Prim.Native.Nat.{ℕ, _+_}
+use mathlib.Core.Bool.{Bool, false, cond, _||_}
+use mathlib.Core.List.{List, [], _∷_, map}
+use lib.Dec.{eqb}
+use Rattle.answer.specs.Answer.{place}
+use Rattle.answer.specs.declared.Refusal.the-variants.{HeadingLevel}
+use Rattle.text.specs.Lines.{pieces}
+use Rattle.marker.specs.Scan.{scan, regionsOf}
+use Rattle.marker.specs.declared.event.Region.{Region}
+use Rattle.heading.specs.Walk.{begin}
+use Rattle.link.specs.Links.{relink}
+use Rattle.link.specs.Path.{parentDir}
+use Rattle.link.specs.Target.{anchorSelf}
+use Rattle.walk.specs.Parts.{Part, unless}
+use Rattle.fragment.specs.Regions.{HostRegion}
+use Rattle.fragment.specs.Shift.{Told, toldFrom, kindsOf, shiftFor, movedLine, pastFrom, dropStart, dropEnd}
+
+-- "Embedding drops the region marker lines that a scan of the filled file finds (that scan's problems refuse nothing ..)"
+unfoldable pub isMarker : ℕ → List Region → Bool
+isMarker n [] = false
+isMarker n (g ∷ gs) = (eqb n (g .opener .line) || eqb n (g .closer .line)) || isMarker n gs
+
+unfoldable pub unmarkedFrom : ℕ → List Region → List (List ℕ) → List (List ℕ)
+unmarkedFrom n gs [] = []
+unmarkedFrom n gs (l ∷ ls) = cond (isMarker n gs) (unmarkedFrom (n + 1) gs ls) (l ∷ unmarkedFrom (n + 1) gs ls)
+
+-- "then blank lines at both ends"
+unfoldable pub embeddedLines : List ℕ → List Told
+embeddedLines s = toldFrom begin (dropEnd (dropStart (unmarkedFrom 1 (regionsOf (scan s)) (pieces s))))
+
+-- "shifts (16: the named file, line among embedded lines), then `anchor_self_links` with the immediate host"; d is the named file's number
+unfoldable pub embed : HostRegion → ℕ → List ℕ → Part (List (List ℕ))
+embed g d s =
+    unless (pastFrom (λ n. HeadingLevel (place d n)) 1 (shiftFor (g .target) (kindsOf (embeddedLines s))) (kindsOf (embeddedLines s)))
+    (map (λ t. relink (anchorSelf (g .host) (parentDir (g .name))) (movedLine (shiftFor (g .target) (kindsOf (embeddedLines s))) t)) (embeddedLines s))

@@ -1,0 +1,52 @@
+-- Document 01, "Fill": the walk of a fill, without its limits.
+use Prim.Native.Nat.{ℕ}
+use mathlib.Core.List.{List, [], _++_}
+use lib.ListN.{take}
+use Rattle.walk.specs.Steps.{Steps, done, failed, sized, taken, go, part, Judged, given, refused, judge}
+use Rattle.answer.specs.declared.Refusal.{Refusal}
+use Rattle.fragment.specs.declared.Filled.{Filled}
+use Rattle.fragment.specs.declared.Filled.the-variants.{Text, NoRegion, Refused}
+use Rattle.fragment.specs.Embed.{embed}
+use Rattle.fragment.specs.Chains.{Chain, wrong, plain, host, Rest, last, shut, into, headed, textOf}
+
+-- "At each region in order: append host lines from the last closer (at first, line 1) through the opener; test L; 12; 13; 14; 15; count one; fill the named
+-- file; embed; test L. Last, append from the closer on; test L." 9 to 11 come before; a file with no region "makes no running text of its own and no test of L"
+unfoldable mutual
+  pub walk : Chain → Steps (List ℕ)
+  walk (wrong x xs r) = failed x
+  walk (plain s) = done s
+  walk (host r) = walkRest r []
+
+  pub walkRest : Rest → List (List ℕ) → Steps (List ℕ)
+  walkRest (last us p) ls = sized (textOf (ls ++ us)) p (done (textOf (ls ++ us)))
+  walkRest (shut g x r) ls = sized (textOf (ls ++ g .before)) (g .opener) (go (part (headed g)) (λ u. failed x))
+  walkRest (into g d c r) ls =
+      sized (textOf (ls ++ g .before)) (g .opener)
+      (go (part (headed g)) (λ u.
+      taken (g .opener)
+      (go (walk c) (λ v.
+      go (part (embed g d v)) (λ es.
+      sized (textOf ((ls ++ g .before) ++ es)) (g .opener)
+      (walkRest r ((ls ++ g .before) ++ es)))))))
+
+-- what a call comes to: a text with the files taken in, no region, or a refusal
+pub data Outcome : Type 0 where
+  text : List ℕ → ℕ → Outcome
+  noRegion : Outcome
+  refusal : Refusal → Outcome
+
+abbrev pub outcome : Judged (List ℕ) → Outcome
+outcome (given t n) = text t n
+outcome (refused x) = refusal x
+
+-- a fill's answer, with the buffer that begins with its text
+abbrev pub readFilled : Filled → List ℕ → Outcome
+readFilled (Text n f) w = text (take n w) f
+readFilled NoRegion w = noRegion
+readFilled (Refused x) w = refusal x
+
+-- "No regions and no fragment problem: "no region""; else the walk, judged
+abbrev pub filled : ℕ → ℕ → Chain → Outcome
+filled B L (wrong x xs r) = outcome (judge B L 0 (walk (wrong x xs r)))
+filled B L (plain s) = noRegion
+filled B L (host r) = outcome (judge B L 0 (walk (host r)))

@@ -1,0 +1,5 @@
+pub mod Regions
+pub mod Shift
+pub mod Embed
+pub mod Chains
+pub mod Fill

@@ -1,0 +1,63 @@
+-- Lines with what they are, and headings moved: shared by a file that is taken in and a member that is assembled.
+use Prim.Native.Nat.{ℕ, _+_}
+use mathlib.Core.Bool.{cond}
+use mathlib.Core.List.{List, [], _∷_, _++_, map}
+use lib.IntN.{ℤ, pos, _+ℤ_}
+use Rattle.answer.specs.declared.Refusal.{Refusal}
+use Rattle.text.specs.Bytes.{part}
+use Rattle.text.specs.Space.{isBlank}
+use Rattle.heading.specs.Level.{shallowestOf, shiftOf, movedTo, headingLine}
+use Rattle.heading.specs.Walk.{kindOf, after}
+use Rattle.heading.specs.declared.level.TopLevel.the-variants.{NoHeading}
+use Rattle.heading.specs.declared.level.Moved.{Moved}
+use Rattle.heading.specs.declared.level.Moved.the-variants.{To, Past}
+use Rattle.heading.specs.declared.walk.LineKind.{LineKind}
+use Rattle.heading.specs.declared.walk.LineKind.the-variants.{Quoted, Heading, Other}
+use Rattle.heading.specs.declared.walk.WalkState.{WalkState}
+
+-- a line, and what it is
+pub record Told : Type 0 where
+  pub kind : LineKind
+  pub bytes : List ℕ
+
+unfoldable pub toldFrom : WalkState → List (List ℕ) → List Told
+toldFrom st [] = []
+toldFrom st (l ∷ ls) = record { kind = kindOf (st .fence) (st .comment) l; bytes = l } ∷ toldFrom (after (st .fence) (st .comment) l) ls
+
+abbrev pub kindsOf : List Told → List LineKind
+kindsOf ts = map (λ t. t .kind) ts
+
+-- "The shift is a signed number: target less shallowest level, 0 without headings."
+abbrev pub shiftFor : ℕ → List LineKind → ℤ
+shiftFor target ks = shiftOf target (shallowestOf NoHeading ks)
+
+-- "Each heading becomes its new hashes, one space, its text, even at shift 0."
+abbrev pub atLevel : Moved → List ℕ → List ℕ → List ℕ
+atLevel (To n) text l = headingLine n text
+atLevel Past text l = l
+
+abbrev pub movedLine : ℤ → Told → List ℕ
+movedLine z t = elim (t .kind) [ Quoted ↦ t .bytes | Heading n a e ↦ atLevel (movedTo (pos n +ℤ z)) (part a e (t .bytes)) (t .bytes) | Other ↦ t .bytes ]
+
+-- 16 "heading past level 6", for each such line; the lines count from n
+abbrev pub past : Moved → Refusal → List Refusal
+past (To n) x = []
+past Past x = x ∷ []
+
+abbrev pub pastLine : ℤ → LineKind → Refusal → List Refusal
+pastLine z Quoted x = []
+pastLine z (Heading n a e) x = past (movedTo (pos n +ℤ z)) x
+pastLine z Other x = []
+
+unfoldable pub pastFrom : (ℕ → Refusal) → ℕ → ℤ → List LineKind → List Refusal
+pastFrom f n z [] = []
+pastFrom f n z (k ∷ ks) = pastLine z k (f n) ++ pastFrom f (n + 1) z ks
+
+-- blank lines at the end, and at the start
+unfoldable pub dropEnd : List (List ℕ) → List (List ℕ)
+dropEnd [] = []
+dropEnd (l ∷ ls) = elim (dropEnd ls) [ [] ↦ cond (isBlank l) [] (l ∷ []) | m ∷ ms ↦ l ∷ m ∷ ms ]
+
+unfoldable pub dropStart : List (List ℕ) → List (List ℕ)
+dropStart [] = []
+dropStart (l ∷ ls) = cond (isBlank l) (dropStart ls) (l ∷ ls)
