@@ -1,0 +1,2 @@
+pub mod AssembleLaws
+pub mod Checks

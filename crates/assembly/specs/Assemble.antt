@@ -1,0 +1,45 @@
+-- Document 01, "Assembly and book": the walk of an assembly, without its limit.
+use Prim.Native.Nat.{ℕ}
+use mathlib.Core.List.{List, [], _∷_, _++_}
+use lib.ListN.{take}
+use Rattle.answer.specs.Answer.{place}
+use Rattle.text.specs.Lines.{LF}
+use Rattle.text.specs.Pattern.{bytes}
+use Rattle.text.specs.Split.{join}
+use Rattle.fragment.specs.Fill.{Outcome, text, refusal}
+use Rattle.assembly.specs.declared.Assembled.{Assembled}
+use Rattle.assembly.specs.declared.Assembled.the-variants.{Text, Refused}
+use Rattle.walk.specs.Parts.{Part, unless}
+use Rattle.walk.specs.Steps.{Steps, done, sized, go, part}
+use Rattle.fileset.specs.Index.{File}
+use Rattle.assembly.specs.Member.{Prepared, prepare, sharedFrom, titleNamed, emit}
+
+-- "All members are prepared (18)"
+unfoldable pub prepareAll : List File → Steps (List Prepared)
+prepareAll [] = done []
+prepareAll (h ∷ hs) = go (part (prepare h)) (λ m. go (prepareAll hs) (λ ms. done (m ∷ ms)))
+
+-- "then compared (19 ..)"
+abbrev pub compare : List Prepared → Part (List Prepared)
+compare ms = unless (sharedFrom [] ms) ms
+
+-- "joined by empty line, `---`, empty line": the lines so far, and those of a member
+abbrev pub joinLines : List (List ℕ) → List (List ℕ) → List (List ℕ)
+joinLines [] es = es
+joinLines (l ∷ ls) es = (l ∷ ls) ++ ([] ∷ bytes "---" ∷ [] ∷ es)
+
+-- "the text so far is the running text here, tested against L after each member and after the last LF"; 17 "stands at the member (for the last LF the last member), line 0"
+unfoldable pub emitAll : (Prepared → Part (List (List ℕ))) → ℕ → List Prepared → List (List ℕ) → Steps (List ℕ)
+emitAll f k [] ls = sized (join LF ls ++ (LF ∷ [])) (place k 0) (done (join LF ls ++ (LF ∷ [])))
+emitAll f k (m ∷ ms) ls = go (part (f m)) (λ es. sized (join LF (joinLines ls es)) (place (m .file) 0) (emitAll f (m .file) ms (joinLines ls es)))
+
+abbrev pub assemblePrepared : List ℕ → List Prepared → Steps (List ℕ)
+assemblePrepared url ms = emitAll (emit (titleNamed ms) url) 0 ms []
+
+unfoldable pub assemble : List ℕ → List File → Steps (List ℕ)
+assemble url hs = go (prepareAll hs) (λ ms. go (part (compare ms)) (λ us. assemblePrepared url us))
+
+-- an assembly's answer, with the buffer that begins with its text
+abbrev pub readAssembled : Assembled → List ℕ → Outcome
+readAssembled (Text n) w = text (take n w) 0
+readAssembled (Refused x) w = refusal x

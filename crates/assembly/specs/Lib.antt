@@ -1,0 +1,3 @@
+pub mod Member
+pub mod Assemble
+pub mod Assembled
