@@ -1,0 +1,4 @@
+pub mod BookLaws
+pub mod DemandLaws
+pub mod Demand
+pub mod Checks

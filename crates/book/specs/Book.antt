@@ -1,0 +1,69 @@
+-- Document 01, "Assembly and book": the walk of a book, without its limits; and the book on chains, without the walk.
+use Prim.Native.Nat.{ℕ, _≤_}
+use mathlib.Core.List.{List, [], _∷_, map, List·Memᴰ}
+use mathlib.Core.Option.{Option, some}
+use mathlib.Core.Path.{_≡_}
+use lib.ListN.{length}
+use Rattle.answer.specs.declared.Refusal.{Refusal}
+use Rattle.fileset.specs.Index.{File, fileOf}
+use Rattle.walk.specs.Parts.{andThen, ifMade}
+use Rattle.walk.specs.Steps.{Steps, done, go}
+use Rattle.fragment.specs.Chains.{Chain, fileAt, start, starts, extended, chainAt, made, faults, running}
+use Rattle.fragment.specs.Fill.{walk}
+use Rattle.assembly.specs.Assemble.{assemble}
+use Rattle.assembly.specs.Assembled.{assembledText, assemblyFaults, assemblyRunning}
+
+-- S is the file set, and M has the record of each list line, counted from 0
+
+-- ---- the walk
+
+-- "The book fills each member, B running on through the list, keeps its text on "no region""
+unfoldable pub walkAll : List Chain → Steps (List (List ℕ))
+walkAll [] = done []
+walkAll (c ∷ cs) = go (walk c) (λ t. go (walkAll cs) (λ ts. done (t ∷ ts)))
+
+-- the members, with the texts that were made
+abbrev pub membersOf : List File → List ℕ → List File
+membersOf S M = map (fileAt S) M
+
+unfoldable pub withTexts : List File → List (List ℕ) → List File
+withTexts [] ts = []
+withTexts (f ∷ fs) [] = []
+withTexts (f ∷ fs) (t ∷ ts) = fileOf (f .number) (f .name) t ∷ withTexts fs ts
+
+-- "then assembles"
+unfoldable pub book : List File → List ℕ → List ℕ → Steps (List ℕ)
+book S M url = go (walkAll (starts S M)) (λ ts. assemble url (withTexts (membersOf S M) ts))
+
+-- ---- the book on chains
+
+-- the book's text: every member made, and all assembled
+unfoldable pub madeAll : List Chain → Option (List (List ℕ))
+madeAll [] = some []
+madeAll (c ∷ cs) = andThen (made c) (λ t. andThen (madeAll cs) (λ ts. some (t ∷ ts)))
+
+unfoldable pub bookText : List File → List ℕ → List ℕ → Option (List ℕ)
+bookText S M url = andThen (madeAll (starts S M)) (λ ts. assembledText url (withTexts (membersOf S M) ts))
+
+-- the members whose texts are made
+abbrev pub madeWith : File → Option (List ℕ) → Option File
+madeWith f o = andThen o (λ t. some (fileOf (f .number) (f .name) t))
+
+unfoldable pub madeMembers : List File → List ℕ → List (Option File)
+madeMembers S [] = []
+madeMembers S (k ∷ M) = madeWith (fileAt S k) (made (start S k)) ∷ madeMembers S M
+
+-- the faults of the assembly, and its running texts
+abbrev pub bookFaults : List File → List ℕ → List ℕ → List Refusal
+bookFaults S M url = assemblyFaults url (madeMembers S M)
+
+abbrev pub bookRunning : List File → List ℕ → List ℕ → List (List ℕ)
+bookRunning S M url = ifMade (madeAll (starts S M)) (λ ts. assemblyRunning url (withTexts (membersOf S M) ts))
+
+-- "nothing reached has a fault, the files taken in are within the allowance and no running text passes the limit"
+pub record Sound (B L : ℕ) (S : List File) (M url : List ℕ) : Type 0 where
+  pub faultless : (p : List ℕ) (c : Chain) → chainAt S M p ≡ some c → faults c ≡ []
+  pub assembles : bookFaults S M url ≡ []
+  pub allowed : length (extended (starts S M)) ≤ B
+  pub fits : (p : List ℕ) (c : Chain) → chainAt S M p ≡ some c → (t : List ℕ) → List·Memᴰ t (running c) → length t ≤ L
+  pub joinsFit : (t : List ℕ) → List·Memᴰ t (bookRunning S M url) → length t ≤ L
