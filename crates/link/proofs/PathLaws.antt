@@ -20,7 +20,8 @@ use Rattle.text.proofs.PatternLaws.{ends-append, ends-not, equals-not}
 use Rattle.text.proofs.BytesLaws.{drop-take, part-length, part-full, or-left}
 use Rattle.text.proofs.BufferLaws.{sets-before}
 use Rattle.text.proofs.SplitLaws.{split-back, split-whole}
-use Rattle.link.specs.Path.{SLASH, base, goes, isUp, step, walked, resolve, put, Tail, tail, dropped, before, tailOf, partsLeft, Back, rest, weight, holder, piece, Within, insideOf, LastPart, lengthened, closed, FoundPart}
+use Rattle.link.specs.Path.{SLASH, base, goes, isUp, step, walked, resolve}
+use Rattle.link.specs.Backward.{put, Tail, tail, dropped, before, tailOf, partsLeft, Back, rest, weight, holder, piece, Within, insideOf, LastPart, lengthened, closed, FoundPart}
 use Rattle.link.specs.declared.path.BackPart.{BackPart}
 use Rattle.link.specs.declared.path.BackPart.the-variants.{Kept, Above}
 use Rattle.link.specs.declared.path.PathCursor.{PathCursor}

@@ -1,3 +1,4 @@
 pub mod Path
+pub mod Backward
 pub mod Target
 pub mod Links

@@ -7,7 +7,7 @@ use lib.Seq.{length-take-le}
 use native.Mathlib.Omega.{arith}
 use borrow.Author.Tests.{not-true, not-false}
 use borrow.Author.Needs.{needs}
-use Rattle.link.specs.Path.{tail, tailOf, partsLeft}
+use Rattle.link.specs.Backward.{tail, tailOf, partsLeft}
 use Rattle.link.proofs.PathLaws.{back-goes, back-up, back-drop, back-keep, goes-some}
 use Rattle.link.proofs.path.back.Statement.{statement}
 use Rattle.link.proofs.path.back.Tie as tie

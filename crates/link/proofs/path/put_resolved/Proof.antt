@@ -4,7 +4,7 @@ use mathlib.Core.Bool.{true, false}
 use mathlib.Core.List.{[]}
 use native.Mathlib.Omega.{arith}
 use borrow.Author.Needs.{needs}
-use Rattle.link.specs.Path.{weight}
+use Rattle.link.specs.Backward.{weight}
 use Rattle.link.proofs.PathLaws.{reached-start, Written, written-length, written-all, written-fits, written-on}
 use Rattle.link.proofs.path.put_resolved.Statement.{statement}
 use Rattle.link.proofs.path.put_resolved.Tie as tie

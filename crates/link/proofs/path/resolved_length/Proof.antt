@@ -4,7 +4,7 @@ use mathlib.Core.List.{[]}
 use lib.ListN.{length}
 use native.Mathlib.Omega.{arith}
 use borrow.Author.Needs.{needs}
-use Rattle.link.specs.Path.{weight}
+use Rattle.link.specs.Backward.{weight}
 use Rattle.link.proofs.PathLaws.{reached-start, reached-root, Measured, measured-fits, measured-on}
 use Rattle.link.proofs.path.resolved_length.Statement.{statement}
 use Rattle.link.proofs.path.resolved_length.Tie as tie

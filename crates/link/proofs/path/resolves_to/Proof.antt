@@ -7,7 +7,7 @@ use native.Mathlib.Omega.{arith}
 use borrow.Author.Needs.{needs}
 use Rattle.text.specs.Pattern.{equals}
 use Rattle.text.proofs.PatternLaws.{equals-drop}
-use Rattle.link.specs.Path.{weight}
+use Rattle.link.specs.Backward.{weight}
 use Rattle.link.proofs.PathLaws.{Reached, reached-start, reached-on, reached-root, reached-not}
 use Rattle.link.proofs.path.resolves_to.Statement.{statement}
 use Rattle.link.proofs.path.resolves_to.Tie as tie
