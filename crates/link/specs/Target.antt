@@ -15,11 +15,11 @@ use Rattle.link.specs.declared.target.Target.the-variants.{Untouched, Pa
 use Rattle.link.specs.declared.target.NewTarget.{NewTarget}
 use Rattle.link.specs.declared.target.NewTarget.the-variants.{From, Title, Outside}
 
--- a URL, a mail address and an anchor are already right, and an empty target names no file
+-- a URL, a mail address and an anchor are already right
 abbrev pub isRight : List ℕ → Bool
 isRight t = startsWith (bytes "#") t || (contains (bytes "://") t || startsWith (bytes "mailto:") t)
 
--- any other target is a path up to its first `#`; from there on it is the fragment, which may be empty
+-- an empty target names no file; any other that is not right is a path up to its first `#`, and from there on the fragment, which may be empty
 unfoldable pub targetOf : List ℕ → Target
 targetOf t = cond (isRight t || eqb (length t) 0) Untouched (Path (first (is 0x23) t))
 
