@@ -1,6 +1,6 @@
 // What a call answers: document 01's acceptance, "no region" and numbered refusals with their places.
 ghost use mathlib.Core.Path.{_≡_};
-ghost use Rattle.answer.specs.Answer.{number, placeOf, second, place as placeAt, refusalNumbers, numbers as numbersOf};
+ghost use Rattle.answer.specs.Answer.{number as numberOf, placeOf, second as secondOf, numbers as numbersOf};
 
 // A file, as its record's number from 1, or 0, and a line from 1, or 0.
 pub struct Place {
@@ -37,48 +37,66 @@ pub enum Answer {
     Refused(Refusal),
 }
 
-fn refused(number: u64, place: Place, second: Place) -> [u64; 6]
-    ensures { λ r. ⌜ r ≡ refusalNumbers number place second ⌝ }
-{
-    [
-        2,
-        number,
-        place.file as u64,
-        place.line as u64,
-        second.file as u64,
-        second.line as u64,
-    ]
-}
-
-fn nowhere() -> Place
-    ensures { λ r. ⌜ r ≡ placeAt 0 0 ⌝ }
-{
-    Place { file: 0, line: 0 }
-}
-
-fn of_refusal(refusal: Refusal) -> [u64; 6]
-    ensures { λ r. ⌜ r ≡ refusalNumbers (number refusal) (placeOf refusal) (second refusal) ⌝ }
+// Its number in the table.
+fn number(refusal: Refusal) -> u64
+    ensures { λ r. ⌜ r ≡ numberOf refusal ⌝ }
 {
     match refusal {
-        Refusal::IndexLine(line) => refused(1, Place { file: 0, line }, nowhere()),
-        Refusal::TooManyRecords => refused(2, Place { file: 0, line: 65 }, nowhere()),
-        Refusal::PastContents(line) => refused(3, Place { file: 0, line }, nowhere()),
-        Refusal::NameTwice(line) => refused(4, Place { file: 0, line }, nowhere()),
-        Refusal::WideByte(place) => refused(5, place, nowhere()),
-        Refusal::NameForm => refused(6, nowhere(), nowhere()),
-        Refusal::ListForm => refused(7, nowhere(), nowhere()),
-        Refusal::Sizes => refused(8, nowhere(), nowhere()),
-        Refusal::NestedRegion(place) => refused(9, place, nowhere()),
-        Refusal::FragmentMarker(place) => refused(10, place, nowhere()),
-        Refusal::UnclosedRegion(place) => refused(11, place, nowhere()),
-        Refusal::PeerWithoutHeading(place) => refused(12, place, nowhere()),
-        Refusal::OnChain(place) => refused(13, place, nowhere()),
-        Refusal::Absent(place) => refused(14, place, nowhere()),
-        Refusal::Allowance(place) => refused(15, place, nowhere()),
-        Refusal::HeadingLevel(place) => refused(16, place, nowhere()),
-        Refusal::TextLimit(place) => refused(17, place, nowhere()),
-        Refusal::NoTitle(file) => refused(18, Place { file, line: 0 }, nowhere()),
-        Refusal::SharedAnchor(place, second) => refused(19, place, second),
+        Refusal::IndexLine(_) => 1,
+        Refusal::TooManyRecords => 2,
+        Refusal::PastContents(_) => 3,
+        Refusal::NameTwice(_) => 4,
+        Refusal::WideByte(_) => 5,
+        Refusal::NameForm => 6,
+        Refusal::ListForm => 7,
+        Refusal::Sizes => 8,
+        Refusal::NestedRegion(_) => 9,
+        Refusal::FragmentMarker(_) => 10,
+        Refusal::UnclosedRegion(_) => 11,
+        Refusal::PeerWithoutHeading(_) => 12,
+        Refusal::OnChain(_) => 13,
+        Refusal::Absent(_) => 14,
+        Refusal::Allowance(_) => 15,
+        Refusal::HeadingLevel(_) => 16,
+        Refusal::TextLimit(_) => 17,
+        Refusal::NoTitle(_) => 18,
+        Refusal::SharedAnchor(_, _) => 19,
+    }
+}
+
+fn place_of(refusal: Refusal) -> Place
+    ensures { λ r. ⌜ r ≡ placeOf refusal ⌝ }
+{
+    match refusal {
+        Refusal::IndexLine(line) | Refusal::PastContents(line) | Refusal::NameTwice(line) => Place {
+            file: 0,
+            line,
+        },
+        Refusal::TooManyRecords => Place { file: 0, line: 65 },
+        Refusal::NameForm => Place { file: 0, line: 0 },
+        Refusal::ListForm => Place { file: 0, line: 0 },
+        Refusal::Sizes => Place { file: 0, line: 0 },
+        Refusal::NoTitle(file) => Place { file, line: 0 },
+        Refusal::WideByte(place)
+        | Refusal::NestedRegion(place)
+        | Refusal::FragmentMarker(place)
+        | Refusal::UnclosedRegion(place)
+        | Refusal::PeerWithoutHeading(place)
+        | Refusal::OnChain(place)
+        | Refusal::Absent(place)
+        | Refusal::Allowance(place)
+        | Refusal::HeadingLevel(place)
+        | Refusal::TextLimit(place)
+        | Refusal::SharedAnchor(place, _) => place,
+    }
+}
+
+fn second(refusal: Refusal) -> Place
+    ensures { λ r. ⌜ r ≡ secondOf refusal ⌝ }
+{
+    match refusal {
+        Refusal::SharedAnchor(_, second) => second,
+        _ => Place { file: 0, line: 0 },
     }
 }
 
@@ -89,6 +107,17 @@ pub fn numbers(answer: Answer) -> [u64; 6]
     match answer {
         Answer::Accepted { length, files } => [0, length as u64, files as u64, 0, 0, 0],
         Answer::NoRegion => [1, 0, 0, 0, 0, 0],
-        Answer::Refused(refusal) => of_refusal(refusal),
+        Answer::Refused(refusal) => {
+            let at = place_of(refusal);
+            let other = second(refusal);
+            [
+                2,
+                number(refusal),
+                at.file as u64,
+                at.line as u64,
+                other.file as u64,
+                other.line as u64,
+            ]
+        }
     }
 }

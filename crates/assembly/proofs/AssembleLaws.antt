@@ -7,7 +7,7 @@ use mathlib.Core.Option.{Option, none, some}
 use lib.ListN.{length, length-append}
 use Rattle.text.specs.Lines.{LF}
 use Rattle.text.specs.Split.{join}
-use Rattle.fileset.specs.Index.{File}
+use Rattle.index.specs.Index.{File}
 use Rattle.answer.specs.Answer.{place}
 use Rattle.answer.specs.declared.Refusal.{Refusal}
 use Rattle.walk.specs.Parts.{Part, partMade, andThen, ifMade, unless}

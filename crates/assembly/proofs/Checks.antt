@@ -3,18 +3,20 @@ use Prim.Native.Nat.{ℕ}
 use mathlib.Core.List.{List, [], _∷_}
 use mathlib.Core.Path.{_≡_, refl}
 use Rattle.text.specs.Pattern.{bytes}
-use Rattle.fileset.specs.Index.{File, fileOf}
+use Rattle.index.specs.Index.{File, fileOf}
 use Rattle.walk.specs.Steps.{Judged, given}
 use Rattle.text.specs.Bytes.{first, afterLast}
 use Rattle.text.specs.Pattern.{startsWith, endsWith, equals, find}
 use Rattle.text.specs.Space.{isSpace, lead, kept, trimStart, trimEnd, trim, isBlank}
 use Rattle.text.specs.Split.{split, join}
-use Rattle.heading.specs.Anchor.{shows, then, plainFrom, anchorOf, slug, plainEndFrom}
-use Rattle.heading.specs.Contents.{lower, isLowered, isContents, drops}
+use Rattle.anchor.specs.Anchor.{shows, markupAfter, plainFrom, anchorOf, slug, plainEndFrom}
+use Rattle.text.specs.Ascii.{lower}
+use Rattle.heading.specs.Contents.{isLowered, isContents, drops}
 use Rattle.heading.specs.Level.{shallowestOf}
-use Rattle.heading.specs.Walk.{hashes, textStart, textEnd, headingOf, opener, closes, opensComment, writtenKind, commentAfter, outsideKind, outsideAfter, kindOf, after, kindsFrom}
+use Rattle.fence.specs.Fences.{opener}
+use Rattle.heading.specs.Walk.{hashes, textStart, textEnd, headingOf, closes, opensComment, writtenKind, commentAfter, outsideKind, outsideAfter, stepKind, stepAfter, kindsFrom}
 use Rattle.link.specs.Links.{relink, relinkOpen, relinkTarget}
-use Rattle.link.specs.Path.{step, walked, resolve}
+use Rattle.path.specs.Path.{step, walked, resolve}
 use Rattle.link.specs.Target.{targetOf, rewriteTarget, anchorSelf}
 use Rattle.walk.specs.Steps.{go, judge}
 use Rattle.fragment.specs.Shift.{toldFrom, pastFrom, dropEnd}
@@ -33,5 +35,5 @@ Checks =
     × (assemblyOf (fileOf 1 (bytes "docs/a.md") (bytes "# T\n[c](../c.md#k)\n") ∷ []) ≡ given (bytes "# T\n[c](https://h/blob/main/c.md#k)\n") 0))
 
 pub checks : Checks
-unfolding first afterLast startsWith endsWith equals find isSpace lead kept trimStart trimEnd trim isBlank split join shows then plainFrom anchorOf slug plainEndFrom lower isLowered isContents drops shallowestOf hashes textStart textEnd headingOf opener closes opensComment writtenKind commentAfter outsideKind outsideAfter kindOf after kindsFrom relink relinkOpen relinkTarget step walked resolve targetOf rewriteTarget anchorSelf go judge toldFrom pastFrom dropEnd prepareAll emitAll assemble withoutContents preparedLines titleOf prepare lineOf earlier sharedIn sharedFrom movable titleNamed emit
+unfolding first afterLast startsWith endsWith equals find isSpace lead kept trimStart trimEnd trim isBlank split join shows markupAfter plainFrom anchorOf slug plainEndFrom lower isLowered isContents drops shallowestOf hashes textStart textEnd headingOf opener closes opensComment writtenKind commentAfter outsideKind outsideAfter stepKind stepAfter kindsFrom relink relinkOpen relinkTarget step walked resolve targetOf rewriteTarget anchorSelf go judge toldFrom pastFrom dropEnd prepareAll emitAll assemble withoutContents preparedLines titleOf prepare lineOf earlier sharedIn sharedFrom movable titleNamed emit
 checks = (refl, (refl, refl))

@@ -11,7 +11,7 @@ use Rattle.assembly.specs.declared.Assembled.{Assembled}
 use Rattle.assembly.specs.declared.Assembled.the-variants.{Text, Refused}
 use Rattle.walk.specs.Parts.{Part, unless}
 use Rattle.walk.specs.Steps.{Steps, done, sized, go, part}
-use Rattle.fileset.specs.Index.{File}
+use Rattle.index.specs.Index.{File}
 use Rattle.assembly.specs.Member.{Prepared, prepare, sharedFrom, titleNamed, emit}
 
 -- "All members are prepared (18)"

@@ -5,7 +5,7 @@ use Prim.Native.Nat.{ℕ}
 use Rattle.answer.specs.declared.Refusal.{Refusal}
 use Rattle.text.specs.Lines.{LF}
 use Rattle.text.specs.Split.{join}
-use Rattle.fileset.specs.Index.{File}
+use Rattle.index.specs.Index.{File}
 use Rattle.walk.specs.Parts.{Part, partMade, partFaults, andThen, ifMade}
 use Rattle.assembly.specs.Member.{Prepared, prepare, sharedFrom, titleNamed, emit}
 use Rattle.assembly.specs.Assemble.{compare, joinLines}

@@ -11,16 +11,16 @@ use Rattle.answer.specs.declared.Refusal.the-variants.{HeadingLevel, NoTitle, S
 use Rattle.text.specs.Bytes.{part}
 use Rattle.text.specs.Lines.{pieces}
 use Rattle.text.specs.Pattern.{equals}
-use Rattle.heading.specs.Anchor.{slug}
+use Rattle.anchor.specs.Anchor.{slug}
 use Rattle.heading.specs.Contents.{drops}
-use Rattle.heading.specs.Walk.{begin}
+use Rattle.heading.specs.Walk.{walkBegin}
 use Rattle.heading.specs.declared.walk.LineKind.{LineKind}
 use Rattle.heading.specs.declared.walk.LineKind.the-variants.{Quoted, Heading, Other}
 use Rattle.link.specs.Links.{relink}
-use Rattle.link.specs.Path.{parentDir}
+use Rattle.path.specs.Path.{parentDir}
 use Rattle.link.specs.Target.{rewriteTarget}
 use Rattle.walk.specs.Parts.{Part, good, flawed, unless}
-use Rattle.fileset.specs.Index.{File}
+use Rattle.index.specs.Index.{File}
 use Rattle.fragment.specs.Shift.{Told, toldFrom, kindsOf, shiftFor, movedLine, pastFrom, dropEnd}
 
 -- "Drop hand-written contents ..": the lines kept, where the line before was dropped or not
@@ -30,7 +30,7 @@ withoutContents within (l ∷ ls) = cond (drops within l) (withoutContents true 
 
 -- ".. drop blank lines at the end only"
 unfoldable pub preparedLines : List ℕ → List Told
-preparedLines s = toldFrom begin (dropEnd (withoutContents false (pieces s)))
+preparedLines s = toldFrom walkBegin (dropEnd (withoutContents false (pieces s)))
 
 -- a member once it is prepared
 pub record Prepared : Type 0 where

@@ -6,7 +6,7 @@ use mathlib.Core.List.{List, [], _∷_, map}
 use mathlib.Core.Option.{Option, none, some}
 use lib.ListN.{length}
 use Rattle.answer.specs.declared.Refusal.{Refusal}
-use Rattle.fileset.specs.Index.{File}
+use Rattle.index.specs.Index.{File}
 use Rattle.walk.specs.Parts.{andThen}
 use Rattle.walk.specs.Steps.{done, go, ends, takes, sizes}
 use Rattle.walk.proofs.Sums.{total, total-append, zero-total, total-one}

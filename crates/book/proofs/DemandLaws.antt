@@ -8,14 +8,15 @@ use mathlib.Core.Logic.{inl, inr, _↔_}
 use mathlib.Core.Option.{Option, none, some}
 use lib.ListN.{length}
 use Rattle.answer.specs.declared.Refusal.{Refusal}
-use Rattle.fileset.specs.Index.{File}
+use Rattle.index.specs.Index.{File}
 use Rattle.walk.specs.Steps.{takes, given, refused, judge, judgedNumber}
 use Rattle.walk.proofs.Sums.{total, total-zero, zero-total, total-some, length-zero}
 use Rattle.walk.proofs.PartLaws.{Agrees}
 use Rattle.walk.proofs.StepsLaws.{over, judge-given, given-judge, judge-more, Grounds, refused-judge, flaw-fails}
 use Rattle.fragment.specs.Chains.{starts, extended, same, faults, running}
 use Rattle.fragment.proofs.ChainLaws.{flaws, faultsOf, reached}
-use Rattle.fragment.proofs.Paths.{same-self, same-equal, pickN, everywhere, nowhere, somewhere}
+use Rattle.fragment.proofs.Paths.{same-self, same-equal, pickN, everywhere, nowhere, somewhere, counts-chains}
+use Rattle.fragment.proofs.CountLaws.{count-unique}
 use Rattle.book.specs.Book.{book, bookText, bookFaults, bookRunning, Sound}
 use Rattle.book.specs.Demand.{numbersOf, Faulty, Overlong, Reason}
 use Rattle.book.proofs.BookLaws.{book-made, book-flaws, book-flaw, book-takes, book-takes-le, book-sizes, book-sizes-le}
@@ -33,7 +34,7 @@ module _ (B L : ℕ) (S : List File) (few : length S ≤ 64) (M url : List ℕ) 
         record {
           faultless = λ p c m. length-zero (faults c) (everywhere flaws S few M (omega arith) p c m);
           assembles = length-zero (bookFaults S M url) (omega arith);
-          allowed = omega (arith, g .count, g .allowed);
+          allowed = (length (extended (starts S M)), counts-chains S few M, omega (arith, g .count, g .allowed));
           fits = λ p c m u k. let z = total-zero (over L) (running c) (everywhere (λ d. total (over L) (running d)) S few M (omega (arith, g .fits)) p c m) u k in omega arith;
           joinsFit = λ u k. let z = total-zero (over L) (bookRunning S M url) (omega (arith, g .fits)) u k in omega arith;
         },
@@ -54,7 +55,7 @@ module _ (B L : ℕ) (S : List File) (few : length S ≤ 64) (M url : List ℕ) 
           let j = zero-total (over L) (bookRunning S M url) (λ u k. omega (arith, s .joinsFit u k)) in
           let z = book-sizes (over L) S M url a q in
           let n : 0 + takes (book S M url) ≡ length (extended (starts S M)) = omega arith in
-          (a, q, rw (← n) (judge-given B L 0 (book S M url) a (book-made S M url ∙ q) (omega (arith, s .allowed)) (omega arith)))
+          (a, q, rw (← n) (judge-given B L 0 (book S M url) a (book-made S M url ∙ q) (omega (arith, s .allowed .2, count-unique S M (s .allowed .0) (length (extended (starts S M))) (s .allowed .1) (counts-chains S few M))) (omega arith)))
 
 -- the book is given exactly when it is sound; its text and its count
 pub given-exactly : (B L : ℕ) (S : List File) (few : length S ≤ 64) (M url : List ℕ) → ((a : List ℕ) × (n : ℕ) × (judge B L 0 (book S M url) ≡ given a n)) ↔ Sound B L S M url
@@ -120,5 +121,5 @@ module _ (S : List File) (few : length S ≤ 64) (M url : List ℕ) where
     where
       on-grounds : Grounds B L 0 (book S M url) x → Reason B L S M url x
       on-grounds (inl h) = inl (faulty x (omega (arith, flaw-fails (like x) (book S M url) x h, book-flaw (like x) S M url, like-self x)))
-      on-grounds (inr (inl h)) = inr (inl (h .0, omega (arith, h .1, book-takes-le S M url)))
+      on-grounds (inr (inl h)) = inr (inl (h .0, (length (extended (starts S M)), counts-chains S few M, omega (arith, h .1, book-takes-le S M url))))
       on-grounds (inr (inr h)) = inr (inr (h .0, overlong L (omega (arith, h .1, book-sizes-le (over L) S M url))))

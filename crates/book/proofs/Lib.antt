@@ -2,3 +2,4 @@ pub mod BookLaws
 pub mod DemandLaws
 pub mod Demand
 pub mod Checks
+pub mod Example

@@ -5,10 +5,10 @@ use mathlib.Core.Option.{Option, some}
 use mathlib.Core.Path.{_≡_}
 use lib.ListN.{length}
 use Rattle.answer.specs.declared.Refusal.{Refusal}
-use Rattle.fileset.specs.Index.{File, fileOf}
+use Rattle.index.specs.Index.{File, fileOf}
 use Rattle.walk.specs.Parts.{andThen, ifMade}
 use Rattle.walk.specs.Steps.{Steps, done, go}
-use Rattle.fragment.specs.Chains.{Chain, fileAt, start, starts, extended, chainAt, made, faults, running}
+use Rattle.fragment.specs.Chains.{Chain, fileAt, start, starts, chainAt, made, faults, running, CountsChains}
 use Rattle.fragment.specs.Fill.{walk}
 use Rattle.assembly.specs.Assemble.{assemble}
 use Rattle.assembly.specs.Assembled.{assembledText, assemblyFaults, assemblyRunning}
@@ -64,6 +64,6 @@ bookRunning S M url = ifMade (madeAll (starts S M)) (λ ts. assemblyRunning url 
 pub record Sound (B L : ℕ) (S : List File) (M url : List ℕ) : Type 0 where
   pub faultless : (p : List ℕ) (c : Chain) → chainAt S M p ≡ some c → faults c ≡ []
   pub assembles : bookFaults S M url ≡ []
-  pub allowed : length (extended (starts S M)) ≤ B
+  pub allowed : (n : ℕ) × CountsChains S M n × (n ≤ B)
   pub fits : (p : List ℕ) (c : Chain) → chainAt S M p ≡ some c → (t : List ℕ) → List·Memᴰ t (running c) → length t ≤ L
   pub joinsFit : (t : List ℕ) → List·Memᴰ t (bookRunning S M url) → length t ≤ L

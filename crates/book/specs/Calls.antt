@@ -4,7 +4,7 @@ use mathlib.Core.List.{List, _++_}
 use lib.ListN.{length, drop, replicate}
 use Rattle.answer.specs.declared.Answer.{Answer}
 use Rattle.answer.specs.declared.Answer.the-variants.{Accepted, NoRegion, Refused as RefusedBy}
-use Rattle.fileset.specs.Index.{fileOf, records, files}
+use Rattle.index.specs.Index.{fileOf, records, files}
 use Rattle.fileset.specs.Members.{members}
 use Rattle.fileset.specs.Check.{fillChecked, bookChecked}
 use Rattle.fileset.specs.declared.check.Checked.{Checked}
@@ -39,7 +39,7 @@ workAfter work = replicate (length work) 0
 -- a fill of the host handed in
 unfoldable pub fillOutcome : List ℕ → List ℕ → List ℕ → List ℕ → ℕ → ℕ → ℕ → ℕ → Outcome
 fillOutcome index contents name t L B out work =
-    afterChecks (fillChecked index contents name t L out work) (filled B L (startAt (files index contents) (fileOf 0 name t)))
+    afterChecks (fillChecked index contents name t L out work) (filled B L 0 (startAt (files index contents) (fileOf 0 name t)))
 
 -- an assembly takes nothing in, so no allowance matters
 unfoldable pub assembleOutcome : List ℕ → List ℕ → List ℕ → List ℕ → ℕ → ℕ → ℕ → Outcome

@@ -9,11 +9,11 @@ use lib.ListN.{length}
 use Rattle.answer.specs.Answer.{number, numbers}
 use Rattle.answer.specs.declared.Refusal.{Refusal}
 use Rattle.answer.specs.declared.Answer.the-variants.{Refused as RefusedBy}
-use Rattle.fileset.specs.Index.{File, records, files}
+use Rattle.index.specs.Index.{File, records, files}
 use Rattle.fileset.specs.Members.{members}
 use Rattle.fileset.specs.Check.{bookChecked}
 use Rattle.fileset.specs.declared.check.Checked.the-variants.{Passed}
-use Rattle.fragment.specs.Chains.{Chain, starts, extended, chainAt, faults, running, CountsChains}
+use Rattle.fragment.specs.Chains.{Chain, chainAt, faults, running, CountsChains}
 use Rattle.book.specs.Book.{bookText, bookFaults, bookRunning, Sound}
 use Rattle.fragment.specs.Fill.{Outcome, text, noRegion, refusal}
 use Rattle.book.specs.Calls.{bookOutcome}
@@ -48,7 +48,7 @@ Overlong L S M url =
 
 -- why a book is refused: for such a fault; by 15, where more files are taken in than the allowance; or by 17, where a running text is over the limit
 abbrev pub Reason : ℕ → ℕ → List File → List ℕ → List ℕ → Refusal → Type 0
-Reason B L S M url x = Faulty S M url x ⊎ (((number x ≡ 15) × (B < length (extended (starts S M)))) ⊎ ((number x ≡ 17) × Overlong L S M url))
+Reason B L S M url x = Faulty S M url x ⊎ (((number x ≡ 15) × ((n : ℕ) × CountsChains S M n × (B < n))) ⊎ ((number x ≡ 17) × Overlong L S M url))
 
 -- for every index, contents, list and URL, and all sizes, limits and allowances with nothing refused before the walk
 pub record Demand3 (index contents list url : List ℕ) : Type 0 where

@@ -1,4 +1,2 @@
-pub mod Index
 pub mod Members
-pub mod Rows
 pub mod Check

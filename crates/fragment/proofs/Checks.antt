@@ -6,7 +6,7 @@ use mathlib.Core.Path.{_≡_, refl}
 use Rattle.answer.specs.Answer.{place}
 use Rattle.answer.specs.declared.Refusal.the-variants.{HeadingLevel}
 use Rattle.text.specs.Pattern.{bytes}
-use Rattle.fileset.specs.Index.{fileOf}
+use Rattle.index.specs.Index.{fileOf}
 use Rattle.walk.specs.Steps.{Judged, given, refused}
 use Rattle.fragment.specs.Chains.{startAt}
 use Rattle.text.specs.Bytes.{first, afterLast}
@@ -14,14 +14,15 @@ use Rattle.text.specs.Lines.{breaks, linesFrom}
 use Rattle.text.specs.Pattern.{startsWith, endsWith, equals, find}
 use Rattle.text.specs.Space.{isSpace, lead, kept, trimStart, trimEnd, trim, isBlank}
 use Rattle.text.specs.Split.{split, join}
-use Rattle.marker.specs.Marker.{isFence, pathOf, namedOf, restOf, aloneOf, fragmentOf, textOf, specOf, markOf, firstOf, nextMark, fragmentKind, markedKind, kindOf}
-use Rattle.marker.specs.Scan.{readBy, readFrom, readLine, spanEvents, eventsOf, after, kindAt, lastOf, scanFrom, scan, regionsOf}
+use Rattle.marker.specs.Marker.{pathOf, namedOf, restOf, aloneOf, fragmentOf, textOf, specOf, markOf, firstOf, nextMark, fragmentKind, markedKind, kindOf}
+use Rattle.scan.specs.Scan.{readBy, readFrom, readLine, spanEvents, eventsOf, after, kindAt, lastOf, scanFrom, scan, regionsOf}
 use Rattle.heading.specs.Level.{shallowestOf}
-use Rattle.heading.specs.Walk.{hashes, textStart, textEnd, headingOf, opener, closes, opensComment, writtenKind, commentAfter, outsideKind, outsideAfter, kindOf as kindOf-of-heading, after as after-of-heading, kindsFrom}
+use Rattle.fence.specs.Fences.{opener, isFence}
+use Rattle.heading.specs.Walk.{hashes, textStart, textEnd, headingOf, closes, opensComment, writtenKind, commentAfter, outsideKind, outsideAfter, stepKind, stepAfter, kindsFrom}
 use Rattle.link.specs.Links.{relink, relinkOpen, relinkTarget}
-use Rattle.link.specs.Path.{step, walked, resolve}
+use Rattle.path.specs.Path.{step, walked, resolve}
 use Rattle.link.specs.Target.{targetOf, anchorSelf}
-use Rattle.fileset.specs.Index.{firstNamed}
+use Rattle.index.specs.Index.{firstNamed}
 use Rattle.walk.specs.Steps.{go, judge}
 use Rattle.fragment.specs.Chains.{next, through, grow, free, timesIn}
 use Rattle.fragment.specs.Embed.{isMarker, unmarkedFrom, embeddedLines, embed}
@@ -49,5 +50,5 @@ Checks =
     × (fillOf (hostOf "<!--[fragment:b.md]-->\n" "") "# B\n###### C" ≡ refused (HeadingLevel (place 1 2))))
 
 pub checks : Checks
-unfolding first afterLast breaks linesFrom startsWith endsWith equals find isSpace lead kept trimStart trimEnd trim isBlank split join isFence pathOf namedOf restOf aloneOf fragmentOf textOf specOf markOf firstOf nextMark fragmentKind markedKind kindOf readBy readFrom readLine spanEvents eventsOf after kindAt lastOf scanFrom scan regionsOf shallowestOf hashes textStart textEnd headingOf opener closes opensComment writtenKind commentAfter outsideKind outsideAfter kindOf-of-heading after-of-heading kindsFrom relink relinkOpen relinkTarget step walked resolve targetOf anchorSelf firstNamed go judge next through grow free timesIn isMarker unmarkedFrom embeddedLines embed walk walkRest problemsOf isWithin blankedFrom lastLevel regionsFrom scanned toldFrom pastFrom dropEnd dropStart
+unfolding first afterLast breaks linesFrom startsWith endsWith equals find isSpace lead kept trimStart trimEnd trim isBlank split join isFence pathOf namedOf restOf aloneOf fragmentOf textOf specOf markOf firstOf nextMark fragmentKind markedKind kindOf readBy readFrom readLine spanEvents eventsOf after kindAt lastOf scanFrom scan regionsOf shallowestOf hashes textStart textEnd headingOf opener closes opensComment writtenKind commentAfter outsideKind outsideAfter stepKind stepAfter kindsFrom relink relinkOpen relinkTarget step walked resolve targetOf anchorSelf firstNamed go judge next through grow free timesIn isMarker unmarkedFrom embeddedLines embed walk walkRest problemsOf isWithin blankedFrom lastLevel regionsFrom scanned toldFrom pastFrom dropEnd dropStart
 checks = (refl, (refl, refl))

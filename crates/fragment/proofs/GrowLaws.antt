@@ -10,7 +10,7 @@ use Rattle.text.specs.Pattern.{equals, later}
 use Rattle.text.specs.declared.pattern.Found.{Found}
 use Rattle.text.specs.declared.pattern.Found.the-variants.{At, Nothing}
 use Rattle.answer.specs.declared.Refusal.the-variants.{OnChain}
-use Rattle.fileset.specs.Index.{File, firstNamed, findFile}
+use Rattle.index.specs.Index.{File, firstNamed, findFile}
 use Rattle.fragment.specs.Regions.{HostRegion, Regions, behind, region, Scanned, problem, noRegion, regions, scanned}
 use Rattle.fragment.specs.Chains.{Chain, wrong, host, fileAt, Next, stop, on, next, nextFound, branch, through, found, grow, free, chain}
 

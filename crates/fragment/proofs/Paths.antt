@@ -8,7 +8,7 @@ use mathlib.Core.Option.{Option, none, some}
 use borrow.Author.Tests.{eq-eqb, eqb-true}
 use lib.Dec.{eqb, leb·suc-zero, leb·suc-suc, leb·zero, eqb·suc-zero, eqb·zero-suc, eqb·suc-suc}
 use lib.ListN.{length, set, length-map, length-set, length-replicate}
-use Rattle.fileset.specs.Index.{File}
+use Rattle.index.specs.Index.{File}
 use Rattle.walk.specs.Parts.{andThen}
 use Rattle.walk.proofs.Sums.{total, total-append, total-map, total-same, zero-total, total-le, le-total, total-some, total-one}
 use Rattle.fragment.specs.Regions.{HostRegion, Regions, behind, region, Scanned, problem, noRegion, regions, scanned}

@@ -16,7 +16,7 @@ use Rattle.text.specs.Pattern.{equals}
 use Rattle.text.specs.Split.{join}
 use Rattle.text.specs.declared.pattern.Found.{Found}
 use Rattle.text.specs.declared.pattern.Found.the-variants.{At, Nothing}
-use Rattle.fileset.specs.Index.{File, fileOf, findFile}
+use Rattle.index.specs.Index.{File, fileOf, findFile}
 use Rattle.walk.specs.Parts.{Part, partMade, partFaults, unless, andThen, ifMade}
 use Rattle.fragment.specs.Regions.{HostRegion, Regions, behind, region, Scanned, problem, noRegion, regions, scanned}
 use Rattle.fragment.specs.Embed.{embed}

@@ -6,11 +6,11 @@ use lib.Dec.{eqb}
 use Rattle.answer.specs.Answer.{place}
 use Rattle.answer.specs.declared.Refusal.the-variants.{HeadingLevel}
 use Rattle.text.specs.Lines.{pieces}
-use Rattle.marker.specs.Scan.{scan, regionsOf}
-use Rattle.marker.specs.declared.event.Region.{Region}
-use Rattle.heading.specs.Walk.{begin}
+use Rattle.scan.specs.Scan.{scan, regionsOf}
+use Rattle.scan.specs.declared.event.Region.{Region}
+use Rattle.heading.specs.Walk.{walkBegin}
 use Rattle.link.specs.Links.{relink}
-use Rattle.link.specs.Path.{parentDir}
+use Rattle.path.specs.Path.{parentDir}
 use Rattle.link.specs.Target.{anchorSelf}
 use Rattle.walk.specs.Parts.{Part, unless}
 use Rattle.fragment.specs.Regions.{HostRegion}
@@ -27,7 +27,7 @@ unmarkedFrom n gs (l ∷ ls) = cond (isMarker n gs) (unmarkedFrom (n + 1) gs ls)
 
 -- "then blank lines at both ends"
 unfoldable pub embeddedLines : List ℕ → List Told
-embeddedLines s = toldFrom begin (dropEnd (dropStart (unmarkedFrom 1 (regionsOf (scan s)) (pieces s))))
+embeddedLines s = toldFrom walkBegin (dropEnd (dropStart (unmarkedFrom 1 (regionsOf (scan s)) (pieces s))))
 
 -- "shifts (16: the named file, line among embedded lines), then `anchor_self_links` with the immediate host"; d is the named file's number
 unfoldable pub embed : HostRegion → ℕ → List ℕ → Part (List (List ℕ))

@@ -45,8 +45,8 @@ readFilled (Text n f) w = text (take n w) f
 readFilled NoRegion w = noRegion
 readFilled (Refused x) w = refusal x
 
--- "No regions and no fragment problem: "no region""; else the walk, judged
-abbrev pub filled : ℕ → ℕ → Chain → Outcome
-filled B L (wrong x xs r) = outcome (judge B L 0 (walk (wrong x xs r)))
-filled B L (plain s) = noRegion
-filled B L (host r) = outcome (judge B L 0 (walk (host r)))
+-- "No regions and no fragment problem: "no region""; else the walk, judged, with n files taken in before
+abbrev pub filled : ℕ → ℕ → ℕ → Chain → Outcome
+filled B L n (wrong x xs r) = outcome (judge B L n (walk (wrong x xs r)))
+filled B L n (plain s) = noRegion
+filled B L n (host r) = outcome (judge B L n (walk (host r)))

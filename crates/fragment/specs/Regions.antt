@@ -10,17 +10,17 @@ use Rattle.answer.specs.declared.Refusal.{Refusal}
 use Rattle.answer.specs.declared.Refusal.the-variants.{NestedRegion, FragmentMarker, UnclosedRegion, PeerWithoutHeading}
 use Rattle.text.specs.Bytes.{part}
 use Rattle.text.specs.Lines.{pieces}
-use Rattle.marker.specs.Scan.{scan, regionsOf}
-use Rattle.marker.specs.declared.event.Region.{Region}
-use Rattle.marker.specs.declared.event.Event.{Event}
-use Rattle.marker.specs.declared.event.Event.the-variants.{OfSpan, OfRegion, OfProblem}
+use Rattle.scan.specs.Scan.{scan, regionsOf}
+use Rattle.scan.specs.declared.event.Region.{Region}
+use Rattle.scan.specs.declared.event.Event.{Event}
+use Rattle.scan.specs.declared.event.Event.the-variants.{OfSpan, OfRegion, OfProblem}
 use Rattle.heading.specs.Level.{shallowestOf}
-use Rattle.heading.specs.Walk.{begin, kindsFrom}
+use Rattle.heading.specs.Walk.{walkBegin, kindsFrom}
 use Rattle.heading.specs.declared.level.TopLevel.{TopLevel}
 use Rattle.heading.specs.declared.level.TopLevel.the-variants.{Level, NoHeading}
 use Rattle.heading.specs.declared.walk.LineKind.{LineKind}
 use Rattle.heading.specs.declared.walk.LineKind.the-variants.{Quoted, Heading, Other}
-use Rattle.fileset.specs.Index.{File}
+use Rattle.index.specs.Index.{File}
 
 -- "Problems 2, 3, 4 are refusals 9, 10, 11"
 abbrev pub refusalOf : ℕ → Place → List Refusal
@@ -43,7 +43,7 @@ blankedFrom n gs [] = []
 blankedFrom n gs (l ∷ ls) = cond (isWithin n gs) [] l ∷ blankedFrom (n + 1) gs ls
 
 abbrev pub ownKinds : List Region → List (List ℕ) → List LineKind
-ownKinds gs ls = kindsFrom begin (blankedFrom 1 gs ls)
+ownKinds gs ls = kindsFrom walkBegin (blankedFrom 1 gs ls)
 
 -- the level of the last heading of lines, b standing before them
 abbrev pub newer : TopLevel → LineKind → TopLevel

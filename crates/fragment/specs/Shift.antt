@@ -7,7 +7,7 @@ use Rattle.answer.specs.declared.Refusal.{Refusal}
 use Rattle.text.specs.Bytes.{part}
 use Rattle.text.specs.Space.{isBlank}
 use Rattle.heading.specs.Level.{shallowestOf, shiftOf, movedTo, headingLine}
-use Rattle.heading.specs.Walk.{kindOf, after}
+use Rattle.heading.specs.Walk.{stepKind, stepAfter}
 use Rattle.heading.specs.declared.level.TopLevel.the-variants.{NoHeading}
 use Rattle.heading.specs.declared.level.Moved.{Moved}
 use Rattle.heading.specs.declared.level.Moved.the-variants.{To, Past}
@@ -22,7 +22,7 @@ pub record Told : Type 0 where
 
 unfoldable pub toldFrom : WalkState → List (List ℕ) → List Told
 toldFrom st [] = []
-toldFrom st (l ∷ ls) = record { kind = kindOf (st .fence) (st .comment) l; bytes = l } ∷ toldFrom (after (st .fence) (st .comment) l) ls
+toldFrom st (l ∷ ls) = record { kind = stepKind (st .fence) (st .comment) l; bytes = l } ∷ toldFrom (stepAfter (st .fence) (st .comment) l) ls
 
 abbrev pub kindsOf : List Told → List LineKind
 kindsOf ts = map (λ t. t .kind) ts

@@ -8,7 +8,8 @@ use lib.ListN.{length, drop, getD, length-map, List·getD-map}
 use borrow.Author.Tests.{eq-eqb, ne-eqb}
 use Rattle.text.specs.Pattern.{startsWith, equals}
 use Rattle.text.proofs.PatternLaws.{starts-more, starts-differs}
-use Rattle.heading.specs.Contents.{lower, isLowered}
+use Rattle.text.specs.Ascii.{lower}
+use Rattle.heading.specs.Contents.{isLowered}
 
 lower-at : (s : List ℕ) (j : ℕ) → getD (map lower s) j 0 ≡ lower (getD s j 0)
 unfolding lower

@@ -1,14 +1,15 @@
 -- Laws of levels: the lesser of two levels; the shift, where what the machine computes is the sum in ℤ, since both are small; the bytes of a heading
--- line, written one after the other; and a turn of the walk that looks for the shallowest heading. Assumes nothing.
+-- line, written one after the other; levels found along the walk, which are 1 to 6; and a turn of the walk that looks for the shallowest heading.
+-- Assumes nothing.
 use Prim.Native.Nat.{ℕ, zero, suc, _+_, _-_, _^_, _≤_, _<_, min}
 use native.Mathlib.Nat.{min-eq-left, min-eq-right}
 use native.Mathlib.Numerals.{add-one}
 use native.Mathlib.Omega.{arith}
 use mathlib.Core.Path.{_≡_, refl, ap, _∙_}
-use mathlib.Core.Bool.{Bool, true, false, cond}
+use mathlib.Core.Bool.{Bool, true, false, cond, _&&_}
 use mathlib.Core.List.{List, [], _∷_, _++_}
-use borrow.Author.Tests.{ltb-true, ltb-false, le-leb, lt-leb}
-use lib.Dec.{T, ltb}
+use borrow.Author.Tests.{ltb-true, ltb-false, leb-true, le-leb, lt-leb}
+use lib.Dec.{T, leb, ltb}
 use lib.IntN.{ℤ, pos, negsuc, _+ℤ_, _-ℤ_, natAbs}
 use lib.ListN.{length, set, replicate, length-replicate, replicate-append-replicate}
 use lib.Seq.{sets}
@@ -16,14 +17,17 @@ use lib.Signed.{mag, ltZ, nonNeg, natAbs-le}
 use mir.Syntax.{w32}
 use mir.Val.{SFits, toZ, ofZ}
 use mir.ValLaws.{toZ-pos, toZ-ofZ}
-use Rattle.text.proofs.BufferLaws.{sets-append}
-use Rattle.heading.specs.Walk.{kindOf, after, kindsFrom}
-use Rattle.heading.specs.Level.{least, shallower, shallowestOf, movedTo, headingLine}
+use Rattle.buffer.proofs.BufferLaws.{sets-append}
+use Rattle.fence.specs.declared.Fence.{Fence}
+use Rattle.heading.specs.Walk.{stepKind, stepAfter, kindsFrom}
+use Rattle.heading.specs.Level.{least, shallower, shallowestOf, movedTo, headingLine, IsLevel}
 use Rattle.heading.specs.declared.level.TopLevel.{TopLevel}
-use Rattle.heading.specs.declared.level.TopLevel.the-variants.{Level}
+use Rattle.heading.specs.declared.level.TopLevel.the-variants.{Level, NoHeading}
 use Rattle.heading.specs.declared.level.Moved.the-variants.{To, Past}
 use Rattle.heading.specs.declared.walk.LineKind.{LineKind}
+use Rattle.heading.specs.declared.walk.LineKind.the-variants.{Quoted, Heading, Other}
 use Rattle.heading.specs.declared.walk.WalkState.{WalkState}
+use Rattle.heading.proofs.WalkLaws.{kind-within}
 
 -- the lesser level
 pub least-new : (n m : ℕ) → n < m → Level n ≡ least n (Level m)
@@ -47,16 +51,24 @@ fits z h = record { sfits = omega arith }
 pub sum-fits : (l : ℕ) (s : ℤ) → l ≤ 7 → mag s ≤ 7 → SFits w32 (toZ w32 l +ℤ toZ w32 (ofZ w32 s))
 sum-fits l s h k = rw (toZ-pos w32 l (omega arith), toZ-ofZ w32 s (record { sfits = omega arith })) (fits (pos l +ℤ s) (small l s h k))
 
-mag-difference : (a b : ℕ) → a ≤ 7 → b ≤ 7 → mag (pos a -ℤ pos b) ≤ 14
+mag-difference : (a b : ℕ) → a ≤ 7 → b ≤ 7 → mag (pos a -ℤ pos b) ≤ 7
 mag-difference a zero h k = omega arith
-mag-difference a (suc b) h k = mag-cond (ltb a (suc b)) (suc b - suc a) (a - suc b) 14 (omega arith) (omega arith)
+mag-difference a (suc b) h k = mag-cond (ltb a (suc b)) (suc b - suc a) (a - suc b) 7 (omega arith) (omega arith)
 
 pub difference-fits : (a b : ℕ) → a ≤ 7 → b ≤ 7 → SFits w32 (toZ w32 a -ℤ toZ w32 b)
-difference-fits a b h k = rw (toZ-pos w32 a (omega arith), toZ-pos w32 b (omega arith)) (fits (pos a -ℤ pos b) (mag-difference a b h k))
+difference-fits a b h k = rw (toZ-pos w32 a (omega arith), toZ-pos w32 b (omega arith)) (fits (pos a -ℤ pos b) (omega (arith, mag-difference a b h k)))
 
 pub difference : (a b : ℕ) → a ≤ 7 → b ≤ 7 → toZ w32 (ofZ w32 (toZ w32 a -ℤ toZ w32 b)) ≡ pos a -ℤ pos b
 difference a b h k =
     rw (toZ-ofZ w32 (toZ w32 a -ℤ toZ w32 b) (difference-fits a b h k), toZ-pos w32 a (omega arith), toZ-pos w32 b (omega arith))
+
+-- the shift, as the machine has it
+pub shift-small : (a b : ℕ) → a ≤ 7 → b ≤ 7 → mag (toZ w32 (ofZ w32 (toZ w32 a -ℤ toZ w32 b))) ≤ 7
+shift-small a b h k = rw (difference a b h k) (mag-difference a b h k)
+
+-- a shift that was handed on is the same number
+pub shift-kept : (z : ℤ) → mag z ≤ 7 → toZ w32 (ofZ w32 z) ≡ z
+shift-kept z h = toZ-ofZ w32 z (record { sfits = omega arith })
 
 -- the number that the machine has after the addition
 pub moved : (l : ℕ) (s : ℤ) → l ≤ 7 → mag s ≤ 7 → toZ w32 (ofZ w32 (toZ w32 l +ℤ toZ w32 (ofZ w32 s))) ≡ pos l +ℤ s
@@ -86,6 +98,16 @@ not-negative (negsuc n) g = absurd (clash g)
 pub moved-small : (l : ℕ) (s : ℤ) → l ≤ 7 → mag s ≤ 7 → natAbs (pos l +ℤ s) < 2 ^ 64
 moved-small l s h k = let a : natAbs (pos l +ℤ s) ≤ 15 = natAbs-le (pos l +ℤ s) (omega (arith, small l s h k)) in omega arith
 
+-- a heading moves to a level of 1 to 6
+pub moved-level : (z : ℤ) (n : ℕ) → movedTo z ≡ To n → (1 ≤ n) × (n ≤ 6)
+moved-level (negsuc m) n e = let y : _≡_ {A = ℕ} 0 1 = cc in absurd (omega arith)
+moved-level (pos m) n e = go (leb 1 m) (leb m 6) refl refl e
+  where
+    go : (a b : Bool) → leb 1 m ≡ a → leb m 6 ≡ b → cond (a && b) (To m) Past ≡ To n → (1 ≤ n) × (n ≤ 6)
+    go true true p q h = let y : m ≡ n = cc in (omega (arith, leb-true 1 m p), omega (arith, leb-true m 6 q))
+    go true false p q h = let y : _≡_ {A = ℕ} 0 1 = cc in absurd (omega arith)
+    go false b p q h = let y : _≡_ {A = ℕ} 0 1 = cc in absurd (omega arith)
+
 -- a write behind n equal bytes
 behind : (l b : List ℕ) (at i n x : ℕ) → i ≡ at + n → sets (sets l at (replicate n x)) i b ≡ sets l at (replicate n x ++ b)
 behind l b at i n x h =
@@ -109,9 +131,36 @@ pub heading-written : (l text : List ℕ) (at n : ℕ) {m o : List ℕ} → m �
 heading-written l text at n {m} {o} e f =
     (rw add-one at f) ∙ ap (λ (r : List ℕ). sets r (at + n) (0x20 ∷ text)) e ∙ behind l (0x20 ∷ text) at (at + n) n 0x23 refl
 
+-- a line of the walk leaves a level of 1 to 6
+abbrev HasLevel : LineKind → Type 0
+HasLevel Quoted = Unit {0}
+HasLevel (Heading n a e) = (1 ≤ n) × (n ≤ 6)
+HasLevel Other = Unit {0}
+
+level-shallower : (b : TopLevel) (k : LineKind) → HasLevel k → IsLevel b → IsLevel (shallower b k)
+level-shallower b Quoted h q = q
+level-shallower b Other h q = q
+level-shallower NoHeading (Heading n a e) h q = h
+level-shallower (Level m) (Heading n a e) h q = (omega arith, omega arith)
+
+pub level-step : (b : TopLevel) (f : Fence) (c : Bool) (l : List ℕ) → IsLevel b → IsLevel (shallower b (stepKind f c l))
+level-step b f c l q = level-shallower b (stepKind f c l) (go (stepKind f c l) (kind-within f c l)) q
+  where
+    go : (k : LineKind) → ((n a e : ℕ) → k ≡ Heading n a e → ((1 ≤ n) × (n ≤ 6)) × ((a ≤ e) × (e ≤ length l))) → HasLevel k
+    go Quoted w = tt
+    go (Heading n a e) w = w n a e refl .0
+    go Other w = tt
+
+-- so do lines
+pub level-lines : (b : TopLevel) (st : WalkState) (ls : List (List ℕ)) → IsLevel b → IsLevel (shallowestOf b (kindsFrom st ls))
+unfolding shallowestOf kindsFrom
+level-lines b st [] q = q
+level-lines b st (l ∷ ls) q =
+    level-lines (shallower b (stepKind (st .fence) (st .comment) l)) (stepAfter (st .fence) (st .comment) l) ls (level-step b (st .fence) (st .comment) l q)
+
 -- a turn of the walk over pieces
 pub turn : (b : TopLevel) (st : WalkState) (l : List ℕ) (ls : List (List ℕ)) {b' : TopLevel} {st' : WalkState} {k : LineKind} {ps : List (List ℕ)} → ps ≡ l ∷ ls
-    → k ≡ kindOf (st .fence) (st .comment) l → st' ≡ after (st .fence) (st .comment) l → b' ≡ shallower b k
+    → k ≡ stepKind (st .fence) (st .comment) l → st' ≡ stepAfter (st .fence) (st .comment) l → b' ≡ shallower b k
     → shallowestOf b' (kindsFrom st' ls) ≡ shallowestOf b (kindsFrom st ps)
 unfolding shallowestOf kindsFrom
 turn b st l ls p e f g = rw (p, g, f, e)

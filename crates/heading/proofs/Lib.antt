@@ -1,5 +1,6 @@
 pub mod WalkLaws
 pub mod ContentsLaws
 pub mod LevelLaws
-pub mod AnchorLaws
+pub mod StillLaws
+pub mod PastLaws
 pub mod Checks

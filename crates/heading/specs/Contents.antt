@@ -1,18 +1,14 @@
 -- Document 01, "Assembly and book": "Drop hand-written contents (heading trimmed, lowercased: `contents` or `table of contents`; fences and
 -- comments are not looked at) through the line before the next starting with `#` that is not such a heading".
-use Prim.Native.Nat.{ℕ, _+_}
-use mathlib.Core.Bool.{Bool, false, cond, not, _&&_, _||_}
+use Prim.Native.Nat.{ℕ}
+use mathlib.Core.Bool.{Bool, false, not, _&&_, _||_}
 use mathlib.Core.List.{List, map}
-use lib.Dec.{leb}
+use Rattle.text.specs.Ascii.{lower}
 use Rattle.text.specs.Bytes.{part}
 use Rattle.text.specs.Pattern.{bytes, startsWith, equals}
 use Rattle.heading.specs.Walk.{headingOf}
 use Rattle.heading.specs.declared.walk.LineKind.{LineKind}
 use Rattle.heading.specs.declared.walk.LineKind.the-variants.{Quoted, Heading, Other}
-
--- "lowercased": A to Z as a to z, any other byte as it is
-unfoldable pub lower : ℕ → ℕ
-lower x = cond (leb 0x41 x && leb x 0x5A) (x + 32) x
 
 -- whether s, lowercased, is p
 unfoldable pub isLowered : List ℕ → List ℕ → Bool

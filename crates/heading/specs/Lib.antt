@@ -1,4 +1,3 @@
 pub mod Walk
 pub mod Level
 pub mod Contents
-pub mod Anchor

@@ -1,14 +1,15 @@
 -- Document 01, "Headings and levels": headings, and the walk over lines that finds them. A line is a list of bytes, as `split('\n')` gives it.
 use Prim.Native.Nat.{ℕ, _+_}
-use mathlib.Core.Bool.{Bool, false, cond, not, _&&_}
+use mathlib.Core.Bool.{Bool, true, false, cond, not, _&&_}
 use mathlib.Core.List.{List, [], _∷_}
 use lib.ListN.{drop}
 use lib.Dec.{leb}
 use Rattle.text.specs.Bytes.{is, first}
 use Rattle.text.specs.Pattern.{bytes, startsWith, contains}
 use Rattle.text.specs.Space.{lead, kept, trimStart}
-use Rattle.heading.specs.declared.walk.Fence.{Fence}
-use Rattle.heading.specs.declared.walk.Fence.the-variants.{Outside, Ticks, Tildes}
+use Rattle.fence.specs.Fences.{opener}
+use Rattle.fence.specs.declared.Fence.{Fence}
+use Rattle.fence.specs.declared.Fence.the-variants.{Outside, Ticks, Tildes}
 use Rattle.heading.specs.declared.walk.LineKind.{LineKind}
 use Rattle.heading.specs.declared.walk.LineKind.the-variants.{Quoted, Heading, Other}
 use Rattle.heading.specs.declared.walk.WalkState.{WalkState}
@@ -31,18 +32,18 @@ headingOf l =
     (Heading (hashes l) (textStart (hashes l) l) (textEnd (hashes l) l))
     Other
 
--- "a fence opener": three backticks or three tildes at the trimmed start
-unfoldable pub opener : List ℕ → Fence
-opener l =
-    cond (startsWith (bytes "```") (trimStart l)) Ticks
-    (cond (startsWith (bytes "~~~") (trimStart l)) Tildes
-    Outside)
+-- "until a line whose trimmed start has the same three bytes": the open fence, and what the line opens
+abbrev pub sameFence : Fence → Fence → Bool
+sameFence Outside g = false
+sameFence Ticks Outside = false
+sameFence Ticks Ticks = true
+sameFence Ticks Tildes = false
+sameFence Tildes Outside = false
+sameFence Tildes Ticks = false
+sameFence Tildes Tildes = true
 
--- "until a line whose trimmed start has the same three bytes"
 unfoldable pub closes : Fence → List ℕ → Bool
-closes Outside l = false
-closes Ticks l = startsWith (bytes "```") (trimStart l)
-closes Tildes l = startsWith (bytes "~~~") (trimStart l)
+closes f l = sameFence f (opener l)
 
 -- "A trimmed start `<!--` without later `-->` opens a comment"
 unfoldable pub opensComment : List ℕ → Bool
@@ -67,20 +68,31 @@ outsideAfter comment l Ticks = record { fence = Ticks; comment = comment }
 outsideAfter comment l Tildes = record { fence = Tildes; comment = comment }
 
 -- "In a fence lines are quoted until a line whose trimmed start has the same three bytes; opener and closer are quoted too."
-unfoldable pub kindOf : Fence → Bool → List ℕ → LineKind
-kindOf Outside comment l = outsideKind comment l (opener l)
-kindOf Ticks comment l = Quoted
-kindOf Tildes comment l = Quoted
+unfoldable pub stepKind : Fence → Bool → List ℕ → LineKind
+stepKind Outside comment l = outsideKind comment l (opener l)
+stepKind Ticks comment l = Quoted
+stepKind Tildes comment l = Quoted
 
-unfoldable pub after : Fence → Bool → List ℕ → WalkState
-after Outside comment l = outsideAfter comment l (opener l)
-after Ticks comment l = record { fence = cond (closes Ticks l) Outside Ticks; comment = comment }
-after Tildes comment l = record { fence = cond (closes Tildes l) Outside Tildes; comment = comment }
+unfoldable pub stepAfter : Fence → Bool → List ℕ → WalkState
+stepAfter Outside comment l = outsideAfter comment l (opener l)
+stepAfter Ticks comment l = record { fence = cond (closes Ticks l) Outside Ticks; comment = comment }
+stepAfter Tildes comment l = record { fence = cond (closes Tildes l) Outside Tildes; comment = comment }
 
-abbrev pub begin : WalkState
-begin = record { fence = Outside; comment = false }
+abbrev pub walkBegin : WalkState
+walkBegin = record { fence = Outside; comment = false }
 
 -- the kinds of lines, one after the other
 unfoldable pub kindsFrom : WalkState → List (List ℕ) → List LineKind
 kindsFrom st [] = []
-kindsFrom st (l ∷ ls) = kindOf (st .fence) (st .comment) l ∷ kindsFrom (after (st .fence) (st .comment) l) ls
+kindsFrom st (l ∷ ls) = stepKind (st .fence) (st .comment) l ∷ kindsFrom (stepAfter (st .fence) (st .comment) l) ls
+
+-- the state behind lines
+unfoldable pub statesAfter : WalkState → List (List ℕ) → WalkState
+statesAfter st [] = st
+statesAfter st (l ∷ ls) = statesAfter (stepAfter (st .fence) (st .comment) l) ls
+
+-- what a line is that leaves the state as it is, and is no heading
+abbrev pub stillKind : Fence → LineKind
+stillKind Outside = Other
+stillKind Ticks = Quoted
+stillKind Tildes = Quoted

@@ -1,21 +1,10 @@
 // Hand-written contents of a member: which of its lines are dropped.
 ghost use mathlib.Core.Path.{_≡_};
-ghost use Rattle.heading.specs.Contents.{lower as lowerOf, isLowered, isContents, drops as dropsLine};
+ghost use Rattle.heading.specs.Contents.{isLowered, isContents, drops as dropsLine};
 use crate::walk;
 use crate::walk::LineKind;
+use text::ascii;
 use text::pattern;
-
-// A byte in lower case.
-pub fn lower(b: u8) -> u8
-    ensures { λ r. ⌜ r ≡ lowerOf b ⌝ }
-{
-    if 0x41 <= b {
-        if b <= 0x5A {
-            return b + 32;
-        }
-    }
-    b
-}
 
 // Whether s, lowercased, is p.
 fn is_lowered(s: &[u8], p: &[u8]) -> bool
@@ -26,7 +15,7 @@ fn is_lowered(s: &[u8], p: &[u8]) -> bool
     }
     let mut i = 0;
     while i < p.len() {
-        if lower(s[i]) != p[i] {
+        if ascii::lower(s[i]) != p[i] {
             return false;
         }
         i += 1;

@@ -6,11 +6,10 @@ ghost use lib.ListN.{length};
 ghost use lib.Seq.{sets};
 ghost use lib.Signed.{mag};
 ghost use Rattle.text.specs.Lines.{pieces};
-ghost use Rattle.heading.specs.Walk.{begin as beginning, kindsFrom};
-ghost use Rattle.heading.specs.Level.{least as leastOf, shallower as shallowerOf, shallowestOf, shiftOf, movedTo, headingLine, Small};
+ghost use Rattle.heading.specs.Walk.{walkBegin, kindsFrom};
+ghost use Rattle.heading.specs.Level.{least as leastOf, shallower as shallowerOf, shallowestOf, shiftOf, movedTo, headingLine, IsLevel};
 use crate::walk;
 use crate::walk::LineKind;
-use text::buffer;
 use text::lines;
 
 pub enum TopLevel {
@@ -38,7 +37,7 @@ fn least(level: usize, found: TopLevel) -> TopLevel
     }
 }
 
-// The shallower of what was found before a line and that line.
+// The shallower of what was found before a line and that line. Along the walk it stays a level of 1 to 6 (the law `level-step`).
 pub fn shallower(found: TopLevel, kind: LineKind) -> TopLevel
     ensures { λ r. ⌜ r ≡ shallowerOf found kind ⌝ }
 {
@@ -55,7 +54,8 @@ pub fn shallower(found: TopLevel, kind: LineKind) -> TopLevel
 
 // The shallowest level of a text's headings.
 pub fn shallowest(s: &[u8]) -> TopLevel
-    ensures { λ r. ⌜ r ≡ shallowestOf TopLevel.NoHeading (kindsFrom beginning (pieces (now (s .entry)))) ⌝ }
+    ensures { λ r. ⌜ r ≡ shallowestOf TopLevel.NoHeading (kindsFrom walkBegin (pieces (now (s .entry)))) ⌝ }
+    ensures { λ r. ⌜ IsLevel r ⌝ }
 {
     let mut found = TopLevel::NoHeading;
     let mut state = walk::begin();
@@ -76,8 +76,8 @@ pub fn shallowest(s: &[u8]) -> TopLevel
 
 // The shift that takes the shallowest heading to the target.
 pub fn shift_to(target: usize, found: TopLevel) -> i32
-    requires { ⌜ (target ≤ 7) × Small found ⌝ }
-    ensures { λ r. ⌜ r ≡ shiftOf target found ⌝ }
+    requires { ⌜ (target ≤ 7) × IsLevel found ⌝ }
+    ensures { λ r. ⌜ (r ≡ shiftOf target found) × (mag r ≤ 7) ⌝ }
 {
     match found {
         TopLevel::Level(n) => target as i32 - n as i32,

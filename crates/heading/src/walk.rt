@@ -3,16 +3,11 @@ ghost use mathlib.Core.Bool.{cond};
 ghost use mathlib.Core.Path.{_≡_};
 ghost use Prim.Native.Nat.{_≤_};
 ghost use lib.ListN.{length};
-ghost use Rattle.heading.specs.Walk.{hashes as hashesOf, headingOf, opener as openerOf, closes as closesBy, opensComment, writtenKind, commentAfter, kindOf, after as afterLine, begin as beginning};
+ghost use Rattle.heading.specs.Walk.{hashes as hashesOf, headingOf, closes as closesBy, opensComment, writtenKind, commentAfter, stepKind, stepAfter, walkBegin};
+ghost use Rattle.fence.specs.declared.Fence.the-variants.{Outside};
+use fence::Fence;
 use text::pattern;
 use text::space;
-
-// The fence that is open, by its three bytes.
-pub enum Fence {
-    Outside,
-    Ticks,
-    Tildes,
-}
 
 pub enum LineKind {
     // In a fence, its opener and its closer with it.
@@ -39,7 +34,7 @@ pub struct WalkStep {
 
 // The state before the first line.
 pub fn begin() -> WalkState
-    ensures { λ r. ⌜ r ≡ beginning ⌝ }
+    ensures { λ r. ⌜ r ≡ walkBegin ⌝ }
 {
     WalkState {
         fence: Fence::Outside,
@@ -84,29 +79,23 @@ pub fn split_heading(line: &[u8]) -> LineKind
     }
 }
 
-// The fence that a line opens.
-fn opening_fence(line: &[u8]) -> Fence
-    ensures { λ r. ⌜ r ≡ openerOf (now (line .entry)) ⌝ }
-{
-    let a = space::lead(line);
-    if pattern::starts_with(&line[a..], b"```") {
-        return Fence::Ticks;
-    }
-    if pattern::starts_with(&line[a..], b"~~~") {
-        return Fence::Tildes;
-    }
-    Fence::Outside
-}
-
 // Whether a line closes the open fence.
 fn closes(fence: Fence, line: &[u8]) -> bool
     ensures { λ r. ⌜ r ≡ closesBy fence (now (line .entry)) ⌝ }
 {
-    let a = space::lead(line);
+    let opener = fence::opening_fence(line);
     match fence {
         Fence::Outside => false,
-        Fence::Ticks => pattern::starts_with(&line[a..], b"```"),
-        Fence::Tildes => pattern::starts_with(&line[a..], b"~~~"),
+        Fence::Ticks => match opener {
+            Fence::Outside => false,
+            Fence::Ticks => true,
+            Fence::Tildes => false,
+        },
+        Fence::Tildes => match opener {
+            Fence::Outside => false,
+            Fence::Ticks => false,
+            Fence::Tildes => true,
+        },
     }
 }
 
@@ -124,7 +113,7 @@ fn opens_comment(line: &[u8]) -> bool
 
 // A line that no fence quotes, with a comment open above it or not.
 fn written(comment: bool, line: &[u8]) -> WalkStep
-    ensures { λ r. ⌜ (r .kind ≡ writtenKind comment (now (line .entry))) × (r .state ≡ record { fence = Fence.Outside; comment = commentAfter comment (now (line .entry)) }) ⌝ }
+    ensures { λ r. ⌜ (r .kind ≡ writtenKind comment (now (line .entry))) × (r .state ≡ record { fence = Outside; comment = commentAfter comment (now (line .entry)) }) ⌝ }
 {
     if comment {
         return WalkStep {
@@ -163,21 +152,20 @@ fn quoted(fence: Fence, comment: bool) -> WalkStep
     }
 }
 
-// A line outside fences.
+// A line outside fences: an opener is looked for before comment state.
 fn outside(comment: bool, line: &[u8]) -> WalkStep
-    ensures { λ r. ⌜ (r .kind ≡ kindOf Fence.Outside comment (now (line .entry))) × (r .state ≡ afterLine Fence.Outside comment (now (line .entry))) ⌝ }
+    ensures { λ r. ⌜ (r .kind ≡ stepKind Outside comment (now (line .entry))) × (r .state ≡ stepAfter Outside comment (now (line .entry))) ⌝ }
 {
-    let fence = opening_fence(line);
-    match fence {
-        Fence::Outside => written(comment, line),
-        Fence::Ticks => quoted(fence, comment),
-        Fence::Tildes => quoted(fence, comment),
+    let opener = fence::opening_fence(line);
+    if fence::opens(opener) {
+        return quoted(opener, comment);
     }
+    written(comment, line)
 }
 
 // A line in an open fence.
 fn inside(fence: Fence, comment: bool, line: &[u8]) -> WalkStep
-    ensures { λ r. ⌜ r ≡ record { kind = LineKind.Quoted; state = record { fence = cond (closesBy fence (now (line .entry))) Fence.Outside fence; comment = comment } } ⌝ }
+    ensures { λ r. ⌜ r ≡ record { kind = LineKind.Quoted; state = record { fence = cond (closesBy fence (now (line .entry))) Outside fence; comment = comment } } ⌝ }
 {
     if closes(fence, line) {
         return quoted(Fence::Outside, comment);
@@ -187,7 +175,7 @@ fn inside(fence: Fence, comment: bool, line: &[u8]) -> WalkStep
 
 // What a line is, and the state after it.
 pub fn step(state: WalkState, line: &[u8]) -> WalkStep
-    ensures { λ r. ⌜ (r .kind ≡ kindOf (state .fence) (state .comment) (now (line .entry))) × (r .state ≡ afterLine (state .fence) (state .comment) (now (line .entry))) ⌝ }
+    ensures { λ r. ⌜ (r .kind ≡ stepKind (state .fence) (state .comment) (now (line .entry))) × (r .state ≡ stepAfter (state .fence) (state .comment) (now (line .entry))) ⌝ }
 {
     let fence = state.fence;
     match fence {

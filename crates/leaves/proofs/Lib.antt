@@ -1,3 +1,1 @@
-pub mod AnchorLaws
-pub mod LeafLaws
 pub mod WrittenLaws

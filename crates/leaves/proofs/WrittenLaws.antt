@@ -6,7 +6,7 @@ use mathlib.Core.List.{List}
 use lib.ListN.{length}
 use lib.Seq.{sets}
 use borrow.Author.Tests.{le-leb, lt-leb}
-use Rattle.leaves.specs.Link.{written}
+use Rattle.leaf.specs.Link.{written}
 
 module _ (s out : List ℕ) (n : ℕ) (e : n ≡ length s) where
   pub short : length out < n → out ≡ written s out

@@ -2,22 +2,26 @@
 ghost use mathlib.Core.Path.{_≡_};
 ghost use lib.ListN.{length};
 ghost use lib.Seq.{sets};
-ghost use Rattle.heading.specs.Anchor.{slug};
+ghost use Rattle.anchor.specs.Anchor.{slug};
 ghost use Rattle.heading.specs.Contents.{drops as dropsLine};
 ghost use Rattle.heading.specs.Level.{shallowestOf};
-ghost use Rattle.heading.specs.Walk.{begin as beginning, kindsFrom};
+ghost use Rattle.heading.specs.Walk.{walkBegin, kindsFrom};
 ghost use Rattle.heading.specs.declared.level.TopLevel.the-variants.{NoHeading as none};
-ghost use Rattle.leaves.specs.Leaf.{one, bit, isOn, stepOf, topNumber, movedOf};
+ghost use Rattle.leaf.specs.Leaf.{one, isOn, stepOf, topNumber, movedOf};
+ghost use Rattle.text.specs.Bytes.{bit};
 ghost use Rattle.text.specs.Lines.{pieces};
 ghost use Rattle.text.specs.Pattern.{equals as equalsTo};
 use heading::contents;
 use heading::level;
 use heading::walk;
+use leaf::number;
+use leaf::slug;
+use text::bytes;
 
-mod anchor;
 mod checks;
+mod lines;
 mod links;
-mod number;
+mod regions;
 
 // One step of the walk: the line's kind (0 other, 1 heading, 2 quoted), its level, where its text starts and ends, the fence after it (0 outside,
 // 1 ticks, 2 tildes) and whether a comment is open after it.
@@ -38,13 +42,13 @@ pub extern "C" fn leaf_drops(within: u64, line: &[u8], answer: &mut [u64; 6])
     ensures { λ _. ⌜ now (answer .exit) ≡ one (bit (dropsLine (isOn within) (now (line .entry)))) ⌝ }
 {
     let b = contents::drops(within != 0, line);
-    *answer = number::one(number::of_bool(b));
+    *answer = number::one(bytes::bit(b) as u64);
 }
 
 // The shallowest level of a text's headings, or 0.
 #[no_mangle]
 pub extern "C" fn leaf_shallowest(text: &[u8], answer: &mut [u64; 6])
-    ensures { λ _. ⌜ now (answer .exit) ≡ one (topNumber (shallowestOf none (kindsFrom beginning (pieces (now (text .entry)))))) ⌝ }
+    ensures { λ _. ⌜ now (answer .exit) ≡ one (topNumber (shallowestOf none (kindsFrom walkBegin (pieces (now (text .entry)))))) ⌝ }
 {
     let found = level::shallowest(text);
     *answer = number::one(number::of_top(found));
@@ -64,7 +68,7 @@ pub extern "C" fn leaf_anchor(text: &[u8], out: &mut [u8], answer: &mut [u64; 6]
     ensures { λ _. ⌜ now (answer .exit) ≡ one (length (slug (now (text .entry)))) ⌝ }
     ensures { λ _. ⌜ now (out .exit) ≡ sets (now (out .entry)) 0 (slug (now (text .entry))) ⌝ }
 {
-    let n = anchor::put(text, out);
+    let n = slug::put(text, out);
     *answer = number::one(n as u64);
 }
 
@@ -73,6 +77,6 @@ pub extern "C" fn leaf_anchor(text: &[u8], out: &mut [u8], answer: &mut [u64; 6]
 pub extern "C" fn leaf_same(s: &[u8], t: &[u8], answer: &mut [u64; 6])
     ensures { λ _. ⌜ now (answer .exit) ≡ one (bit (equalsTo (slug (now (s .entry))) (slug (now (t .entry))))) ⌝ }
 {
-    let b = heading::anchor::same_anchor(s, t);
-    *answer = number::one(number::of_bool(b));
+    let b = anchor::same_anchor(s, t);
+    *answer = number::one(bytes::bit(b) as u64);
 }

@@ -1,72 +1,30 @@
 // Leaf calls on links and paths.
 ghost use mathlib.Core.Path.{_≡_};
-ghost use Prim.Native.Nat.{_-_, min};
-ghost use lib.ListN.{length, take};
-ghost use Rattle.text.specs.Bytes.{is, afterLast};
+ghost use lib.ListN.{length};
+ghost use Rattle.text.specs.Bytes.{bit};
 ghost use Rattle.text.specs.Pattern.{equals as equalsTo};
-ghost use Rattle.link.specs.Path.{SLASH, resolve};
+ghost use Rattle.path.specs.Path.{parentDir, resolve};
 ghost use Rattle.link.specs.Target.{targetOf, trimSlashes};
-ghost use Rattle.leaves.specs.Leaf.{one, bit, isOn};
-ghost use Rattle.leaves.specs.Link.{written, linkNumbers, NextAnswer, SelfAnswer, targetNumbers, newNumbers, NewAnswer};
-use crate::number;
+ghost use Rattle.leaf.specs.Leaf.{one, isOn};
+ghost use Rattle.leaf.specs.Link.{written, NextAnswer, SelfAnswer, targetNumbers, NewAnswer};
+use leaf::number;
 use link::links;
-use link::links::NextLink;
-use link::path;
 use link::target;
-use link::target::NewTarget;
-use link::target::Target;
-
-fn of_link(found: NextLink) -> [u64; 6]
-    ensures { λ r. ⌜ r ≡ linkNumbers found ⌝ }
-{
-    match found {
-        NextLink::Link { start, end } => [1, start as u64, end as u64, 0, 0, 0],
-        NextLink::NoLink => [0, 0, 0, 0, 0, 0],
-    }
-}
-
-fn of_target(found: Target) -> [u64; 6]
-    ensures { λ r. ⌜ r ≡ targetNumbers found ⌝ }
-{
-    match found {
-        Target::Untouched => [0, 0, 0, 0, 0, 0],
-        Target::Path(end) => [1, end as u64, 0, 0, 0, 0],
-    }
-}
-
-fn of_new(new: NewTarget) -> [u64; 6]
-    ensures { λ r. ⌜ r ≡ newNumbers new ⌝ }
-{
-    match new {
-        NewTarget::From(at) => [0, at as u64, 0, 0, 0, 0],
-        NewTarget::Title => [1, 0, 0, 0, 0, 0],
-        NewTarget::Outside(end) => [2, end as u64, 0, 0, 0, 0],
-    }
-}
-
-// The smaller of a number and a length.
-fn at_most(n: u64, length: usize) -> usize
-    ensures { λ r. ⌜ r ≡ min n length ⌝ }
-{
-    if n < length as u64 {
-        return n as usize;
-    }
-    length
-}
+use text::bytes;
 
 // The first link of a line from a place on: 1 and where its target starts and ends, or 0.
 #[no_mangle]
 pub extern "C" fn leaf_link(line: &[u8], from: u64, answer: &mut [u64; 6])
     ensures { λ _. ⌜ NextAnswer (now (line .entry)) from (now (answer .exit)) ⌝ }
 {
-    let found = links::next_link(line, at_most(from, line.len()));
-    *answer = of_link(found);
+    let found = links::next_link(line, leaf::links::at_most(from, line.len()));
+    *answer = leaf::links::of_link(found);
 }
 
 // How long the directory of a file is.
 #[no_mangle]
 pub extern "C" fn leaf_parent(name: &[u8], answer: &mut [u64; 6])
-    ensures { λ _. ⌜ now (answer .exit) ≡ one (afterLast (is SLASH) (now (name .entry)) - 1) ⌝ }
+    ensures { λ _. ⌜ now (answer .exit) ≡ one (length (parentDir (now (name .entry)))) ⌝ }
 {
     let n = path::parent_dir(name);
     *answer = number::one(n as u64);
@@ -93,7 +51,7 @@ pub extern "C" fn leaf_resolves(path: &[u8], dir: &[u8], name: &[u8], answer: &m
     ensures { λ _. ⌜ now (answer .exit) ≡ one (bit (equalsTo (now (name .entry)) (resolve (now (dir .entry)) (now (path .entry))))) ⌝ }
 {
     let b = path::resolves_to(path, dir, name);
-    *answer = number::one(number::of_bool(b));
+    *answer = number::one(bytes::bit(b) as u64);
 }
 
 // A target: 0 if it stays as it is, or 1 and where its path ends.
@@ -102,7 +60,7 @@ pub extern "C" fn leaf_target(target: &[u8], answer: &mut [u64; 6])
     ensures { λ _. ⌜ now (answer .exit) ≡ targetNumbers (targetOf (now (target .entry))) ⌝ }
 {
     let found = target::read_target(target);
-    *answer = of_target(found);
+    *answer = leaf::links::of_target(found);
 }
 
 // What a target becomes whose path ends at a place, where it names a member or not: 0 and the place from which on its bytes stay, 1 for the member's
@@ -111,8 +69,8 @@ pub extern "C" fn leaf_target(target: &[u8], answer: &mut [u64; 6])
 pub extern "C" fn leaf_rewrite(target: &[u8], end: u64, member: u64, answer: &mut [u64; 6])
     ensures { λ _. ⌜ NewAnswer (now (target .entry)) end (isOn member) (now (answer .exit)) ⌝ }
 {
-    let new = target::rewrite_target(target, at_most(end, target.len()), member != 0);
-    *answer = of_new(new);
+    let new = target::rewrite_target(target, leaf::links::at_most(end, target.len()), member != 0);
+    *answer = leaf::links::of_new(new);
 }
 
 // From which place on a target's bytes stay in a file that is taken into a host.

@@ -7,7 +7,7 @@ use mathlib.Core.Option.{none, some}
 use Rattle.text.specs.Bytes.{first, afterLast}
 use Rattle.text.specs.Pattern.{bytes, startsWith, equals, find}
 use Rattle.text.specs.Split.{split, join}
-use Rattle.link.specs.Path.{parentDir, step, walked, resolve}
+use Rattle.path.specs.Path.{parentDir, step, walked, resolve}
 use Rattle.link.specs.Target.{targetOf, rewriteTarget}
 
 -- K5 `../../a.md` in `docs`: `a.md`. K12 URL `https://h/`, member `docs/a.md`, `../c.md#k`: `https://h/blob/main/c.md#k`

@@ -1,4 +1,4 @@
-pub mod PathLaws
 pub mod LinkLaws
+pub mod RunLaws
 pub mod TargetLaws
 pub mod Checks

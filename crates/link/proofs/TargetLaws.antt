@@ -11,7 +11,7 @@ use borrow.Author.Tests.{ne-eqb}
 use Rattle.text.specs.Bytes.{is, first}
 use Rattle.text.specs.Pattern.{equals}
 use Rattle.text.proofs.BytesLaws.{first-le}
-use Rattle.link.specs.Path.{resolve}
+use Rattle.path.specs.Path.{resolve}
 use Rattle.link.specs.Target.{isRight, targetOf, anchorSelf}
 use Rattle.link.specs.declared.target.Target.{Target}
 use Rattle.link.specs.declared.target.Target.the-variants.{Untouched, Path}

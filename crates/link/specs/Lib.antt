@@ -1,4 +1,3 @@
-pub mod Path
-pub mod Backward
 pub mod Target
 pub mod Links
+pub mod Runs

@@ -25,7 +25,7 @@ unfoldable mutual
   relinkTarget f b (x ∷ s) = cond (eqb x 0x29) (f b ++ (x ∷ relink f s)) (relinkTarget f (b ++ (x ∷ [])) s)
 
 -- For the cursor: the next link of a line from a place on, by its target's place; what stands before the target stays, and the rest goes on from the `)`
-abbrev pub Next : List ℕ → ℕ → NextLink → Type 0
-Next l i (Link a e) =
+abbrev pub FoundLink : List ℕ → ℕ → NextLink → Type 0
+FoundLink l i (Link a e) =
     ((i ≤ a) × ((a ≤ e) × (e < length l))) × ((f : List ℕ → List ℕ) → relink f (drop i l) ≡ part i a l ++ (f (part a e l) ++ relink f (drop e l)))
-Next l i NoLink = (f : List ℕ → List ℕ) → relink f (drop i l) ≡ drop i l
+FoundLink l i NoLink = (f : List ℕ → List ℕ) → relink f (drop i l) ≡ drop i l

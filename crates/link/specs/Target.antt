@@ -8,8 +8,8 @@ use lib.ListN.{length, take, drop}
 use lib.Dec.{eqb}
 use Rattle.text.specs.Bytes.{is, first, afterLast}
 use Rattle.text.specs.Pattern.{bytes, startsWith, equals, contains}
-use Rattle.heading.specs.Anchor.{slug}
-use Rattle.link.specs.Path.{SLASH, resolve}
+use Rattle.anchor.specs.Anchor.{slug}
+use Rattle.path.specs.Path.{SLASH, resolve}
 use Rattle.link.specs.declared.target.Target.{Target}
 use Rattle.link.specs.declared.target.Target.the-variants.{Untouched, Path}
 use Rattle.link.specs.declared.target.NewTarget.{NewTarget}

@@ -1,4 +1,3 @@
-// Links: the targets of a line, the paths in them, and what they become.
+// Links: the targets of a line, and what they become.
 pub mod links;
-pub mod path;
 pub mod target;

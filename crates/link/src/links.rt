@@ -1,7 +1,7 @@
 // The links of a line, left to right.
 ghost use Prim.Native.Nat.{_≤_};
 ghost use lib.ListN.{length};
-ghost use Rattle.link.specs.Links.{Next};
+ghost use Rattle.link.specs.Links.{FoundLink};
 use text::bytes;
 use text::pattern;
 use text::pattern::Found;
@@ -15,7 +15,7 @@ pub enum NextLink {
 // The first link from a place on.
 pub fn next_link(line: &[u8], from: usize) -> NextLink
     requires { ⌜ from ≤ length (now line) ⌝ }
-    ensures { λ r. ⌜ Next (now (line .entry)) from r ⌝ }
+    ensures { λ r. ⌜ FoundLink (now (line .entry)) from r ⌝ }
 {
     let f = pattern::find(&line[from..], b"](");
     match f {

@@ -3,7 +3,6 @@ ghost use mathlib.Core.Path.{_≡_};
 ghost use Prim.Native.Nat.{_≤_};
 ghost use lib.ListN.{length, take, drop};
 ghost use Rattle.link.specs.Target.{isRight, targetOf, trimSlashes, anchorSelf, Becomes};
-use crate::path;
 use text::bytes;
 use text::pattern;
 
@@ -48,7 +47,7 @@ pub fn read_target(target: &[u8]) -> Target
 
 // From which place on a target's bytes stay in a file that is taken into a host.
 pub fn anchor_self(target: &[u8], dir: &[u8], host: &[u8]) -> usize
-    ensures { λ r. ⌜ drop r (now (target .entry)) ≡ anchorSelf (now (host .entry)) (now (dir .entry)) (now (target .entry)) ⌝ }
+    ensures { λ r. ⌜ (drop r (now (target .entry)) ≡ anchorSelf (now (host .entry)) (now (dir .entry)) (now (target .entry))) × (r ≤ length (now (target .entry))) ⌝ }
 {
     match read_target(target) {
         Target::Untouched => 0,

@@ -14,10 +14,11 @@ use Rattle.text.proofs.PatternLaws.{find-within, contains-nothing}
 use Rattle.marker.specs.declared.line.Fragment.{Fragment}
 use Rattle.marker.specs.declared.line.Fragment.the-variants.{Path, Other}
 use Rattle.marker.specs.declared.line.Kind.{Kind}
+use Rattle.fence.specs.Fences.{isFence}
 use Rattle.marker.specs.declared.line.Kind.the-variants.{Plain, Fence, Fault, Closes, Opens, Spans}
 use Rattle.marker.specs.declared.span.Mark.{Mark}
 use Rattle.marker.specs.declared.span.Mark.the-variants.{Marked, Problem, End}
-use Rattle.marker.specs.Marker.{OPEN, SPEC-END, CLOSE, OPEN-FRAGMENT, isFence, textOf, specOf, markOf, firstOf, nextMark, fragmentOf, fragmentKind, markedKind, kindOf}
+use Rattle.marker.specs.Marker.{OPEN, SPEC-END, CLOSE, OPEN-FRAGMENT, textOf, specOf, markOf, firstOf, nextMark, fragmentOf, fragmentKind, markedKind, kindOf}
 
 -- a span's text ends past lo, and its closer ends by hi
 abbrev Ends : ℕ → ℕ → Mark → Type 0

@@ -1,13 +1,14 @@
--- Document 01, "Marker scan", for one line: fences, fragment markers, spans, and what a line is. A line is a list of bytes; o is the place of its first byte.
+-- Document 01, "Marker scan", for one line: fragment markers, spans, and what a line is. A line is a list of bytes; o is the place of its first byte.
 use Prim.Native.Nat.{ℕ, _+_, _-_}
 use mathlib.Core.Bool.{Bool, true, false, cond, _&&_, _||_}
 use mathlib.Core.List.{List}
 use lib.ListN.{length, take, drop}
 use lib.Dec.{eqb}
 use Rattle.text.specs.Pattern.{bytes, startsWith, endsWith, equals, find, contains}
-use Rattle.text.specs.Space.{lead, trimStart, trim}
+use Rattle.text.specs.Space.{lead, trim}
 use Rattle.text.specs.declared.pattern.Found.{Found}
 use Rattle.text.specs.declared.pattern.Found.the-variants.{At, Nothing}
+use Rattle.fence.specs.Fences.{isFence}
 use Rattle.marker.specs.declared.line.Fragment.{Fragment}
 use Rattle.marker.specs.declared.line.Fragment.the-variants.{Path, Other}
 use Rattle.marker.specs.declared.line.Kind.{Kind}
@@ -27,10 +28,6 @@ CLOSE = bytes "<!--[/]-->"
 
 abbrev pub OPEN-FRAGMENT : List ℕ
 OPEN-FRAGMENT = bytes "<!--[fragment:"
-
--- "A line whose trimmed start is ` ``` ` or `~~~` toggles the fence."
-unfoldable pub isFence : List ℕ → Bool
-isFence l = startsWith (bytes "```") (trimStart l) || startsWith (bytes "~~~") (trimStart l)
 
 -- "P not empty and without `:` or `]-->`": a path p at place o
 unfoldable pub pathOf : ℕ → Bool → List ℕ → Fragment

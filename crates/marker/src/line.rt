@@ -2,12 +2,20 @@
 ghost use mathlib.Core.Path.{_≡_};
 ghost use Prim.Native.Nat.{_+_, _<_, _^_};
 ghost use lib.ListN.{length};
-ghost use Rattle.text.specs.Pattern.{equals as equalsTo, find as findIn};
-ghost use Rattle.text.specs.Space.{trim};
-ghost use Rattle.marker.specs.Marker.{isFence, pathOf, namedOf, restOf, aloneOf, fragmentOf, fragmentKind, markedKind, kindOf, OPEN, CLOSE};
+ghost use Rattle.text.specs.Pattern.{find as findIn};
+ghost use Rattle.marker.specs.Marker.{pathOf, aloneOf, fragmentKind, markedKind, kindOf, OPEN};
 use text::pattern;
 use text::pattern::Found;
 use text::space;
+
+// The length of `<!--[fragment:`.
+const OPEN_FRAGMENT: usize = 14;
+
+// The length of `]-->`.
+const SPEC_END: usize = 4;
+
+// The length of `:peer`.
+const PEER: usize = 5;
 
 // A line that is alone a fragment marker: where its path stands, and whether it is a peer. Or another line.
 pub enum Fragment {
@@ -38,17 +46,6 @@ pub enum Kind {
     Spans(usize),
 }
 
-// A line whose trimmed start is ``` or ~~~.
-pub fn is_fence(line: &[u8]) -> bool
-    ensures { λ r. ⌜ r ≡ isFence (now (line .entry)) ⌝ }
-{
-    let a = space::lead(line);
-    if pattern::starts_with(&line[a..], b"```") {
-        return true;
-    }
-    pattern::starts_with(&line[a..], b"~~~")
-}
-
 // A path p at place o.
 fn path_at(p: &[u8], o: usize, peer: bool) -> Fragment
     requires { ⌜ o + length (now p) < 2 ^ 64 ⌝ }
@@ -70,69 +67,33 @@ fn path_at(p: &[u8], o: usize, peer: bool) -> Fragment
     }
 }
 
-// What stands at place o between `<!--[fragment:` and `]-->`.
-fn named(x: &[u8], o: usize) -> Fragment
-    requires { ⌜ o + length (now x) < 2 ^ 64 ⌝ }
-    ensures { λ r. ⌜ r ≡ namedOf o (now (x .entry)) ⌝ }
-{
-    if pattern::ends_with(x, b":peer") {
-        let n = x.len() - 5;
-        return path_at(&x[..n], o, true);
-    }
-    path_at(x, o, false)
-}
-
-// What stands at place o after `<!--[fragment:`.
-fn rest(x: &[u8], o: usize) -> Fragment
-    requires { ⌜ o + length (now x) < 2 ^ 64 ⌝ }
-    ensures { λ r. ⌜ r ≡ restOf o (now (x .entry)) ⌝ }
-{
-    if pattern::ends_with(x, b"]-->") {
-        let n = x.len() - 4;
-        return named(&x[..n], o);
-    }
-    Fragment::Other
-}
-
-// A trimmed line t at place o.
-fn alone(t: &[u8], o: usize) -> Fragment
-    requires { ⌜ o + length (now t) < 2 ^ 64 ⌝ }
-    ensures { λ r. ⌜ r ≡ aloneOf o (now (t .entry)) ⌝ }
-{
-    if pattern::starts_with(t, b"<!--[fragment:") {
-        return rest(&t[14..], o + 14);
-    }
-    Fragment::Other
-}
-
-// The fragment marker that a line at place o is alone.
-pub fn fragment_spec(line: &[u8], o: usize) -> Fragment
+// The path that a trimmed line at place o names, and its placement, where the whole line is a fragment marker.
+fn fragment_spec(line: &[u8], o: usize) -> Fragment
     requires { ⌜ o + length (now line) < 2 ^ 64 ⌝ }
-    ensures { λ r. ⌜ r ≡ fragmentOf o (now (line .entry)) ⌝ }
+    ensures { λ r. ⌜ r ≡ aloneOf o (now (line .entry)) ⌝ }
 {
-    let a = space::lead(line);
-    let n = space::kept(&line[a..]);
-    let e = a + n;
-    alone(&line[a..e], o + a)
+    if !pattern::starts_with(line, b"<!--[fragment:") {
+        return Fragment::Other;
+    }
+    let rest = &line[OPEN_FRAGMENT..];
+    if !pattern::ends_with(rest, b"]-->") {
+        return Fragment::Other;
+    }
+    let end = rest.len() - SPEC_END;
+    let spec = &rest[..end];
+    if pattern::ends_with(spec, b":peer") {
+        let end = spec.len() - PEER;
+        return path_at(&spec[..end], o + OPEN_FRAGMENT, true);
+    }
+    path_at(spec, o + OPEN_FRAGMENT, false)
 }
 
-// Whether a line is alone a closing marker.
-fn is_closer(line: &[u8]) -> bool
-    ensures { λ r. ⌜ r ≡ equalsTo CLOSE (trim (now (line .entry))) ⌝ }
+// What a line is whose first marker stands at place i of it, outside a fence, where it closes no region.
+fn fragment_kind(fragment: Fragment, line: &[u8], i: usize, inside: bool) -> Kind
+    requires { ⌜ findIn OPEN (now line) ≡ Found.At i ⌝ }
+    ensures { λ r. ⌜ r ≡ fragmentKind inside i (now (line .entry)) fragment ⌝ }
 {
-    let a = space::lead(line);
-    let n = space::kept(&line[a..]);
-    let e = a + n;
-    pattern::equals(&line[a..e], b"<!--[/]-->")
-}
-
-// What a line at place o is whose first marker stands at place i of it, outside a fence, and that closes no region.
-fn fragment_kind(line: &[u8], i: usize, o: usize, inside: bool) -> Kind
-    requires { ⌜ (o + length (now line) < 2 ^ 64) × (findIn OPEN (now line) ≡ Found.At i) ⌝ }
-    ensures { λ r. ⌜ r ≡ fragmentKind inside i (now (line .entry)) (fragmentOf o (now (line .entry))) ⌝ }
-{
-    let f = fragment_spec(line, o);
-    match f {
+    match fragment {
         Fragment::Path { start, end, peer } => {
             if inside {
                 return Kind::Fault(2);
@@ -156,13 +117,13 @@ fn marked_kind(line: &[u8], i: usize, o: usize, fence: bool, inside: bool) -> Ki
     if fence {
         return Kind::Fault(1);
     }
-    if inside {
-        if is_closer(line) {
-            return Kind::Closes;
-        }
-        return fragment_kind(line, i, o, true);
+    let start = space::lead(line);
+    let end = start + space::kept(&line[start..]);
+    let trimmed = &line[start..end];
+    if inside && pattern::equals(trimmed, b"<!--[/]-->") {
+        return Kind::Closes;
     }
-    fragment_kind(line, i, o, false)
+    fragment_kind(fragment_spec(trimmed, o + start), line, i, inside)
 }
 
 // What a line at place o is, where a fence or a region may be open above it.
@@ -170,7 +131,7 @@ pub fn kind_of(line: &[u8], o: usize, fence: bool, inside: bool) -> Kind
     requires { ⌜ o + length (now line) < 2 ^ 64 ⌝ }
     ensures { λ r. ⌜ r ≡ kindOf fence inside o (now (line .entry)) ⌝ }
 {
-    if is_fence(line) {
+    if fence::is_fence(line) {
         return Kind::Fence;
     }
     let f = pattern::find(line, b"<!--[");

@@ -23,7 +23,7 @@ pub enum Mark {
 // How the reading of a line's spans stopped: at a problem, by its number, or at the end of the last span.
 pub enum Stop {
     AtProblem(usize),
-    AtSpanEnd(usize),
+    AtSpanEnd,
 }
 
 // The text of a span, and what follows it on the line: b, after a spec of j bytes at place o.
@@ -34,10 +34,12 @@ fn text_mark(b: &[u8], o: usize, j: usize) -> Mark
     let f = pattern::find(b, b"<!--[/]-->");
     match f {
         Found::At(k) => {
-            if pattern::contains(&b[..k], b"<!--[") {
+            let nested = pattern::contains(&b[..k], b"<!--[");
+            let empty = j == 0;
+            if nested {
                 return Mark::Problem(9);
             }
-            if j == 0 {
+            if empty {
                 return Mark::Problem(10);
             }
             Mark::Marked {

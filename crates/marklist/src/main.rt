@@ -16,7 +16,7 @@ fn main() {
     let mut input = [0u8; 16384];
     let n = io::read_full(STDIN_FILENO, &mut input);
     let mut out = io::large_buffer();
-    let a = marker::scan(&input[..n], &mut out);
+    let a = listing::scan(&input[..n], &mut out);
     match a {
         Answer::Accepted { length, files: _ } => {
             io::write_all(STDOUT_FILENO, &out[..length]);

@@ -7,9 +7,9 @@ use lib.ListN.{take, drop, getD}
 use lib.Dec.{eqb, leb}
 use borrow.Author.Tests.{leb-true}
 use Rattle.replay.specs.Header.{caseOf, headerOf}
-use Rattle.text.specs.Decimal.{numberOf}
-use Rattle.text.specs.declared.decimal.Number.{Number}
-use Rattle.text.specs.declared.decimal.Number.the-variants.{Is, NoNumber}
+use Rattle.buffer.specs.Decimal.{numberOf}
+use Rattle.buffer.specs.declared.decimal.Number.{Number}
+use Rattle.buffer.specs.declared.decimal.Number.the-variants.{Is, NoNumber}
 use Rattle.replay.specs.declared.header.Header.{Header}
 use Rattle.replay.specs.declared.header.Header.the-variants.{Case, IllFormed}
 

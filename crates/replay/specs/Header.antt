@@ -4,9 +4,9 @@ use mathlib.Core.Bool.{cond, _&&_}
 use mathlib.Core.List.{List}
 use lib.ListN.{take, drop, getD}
 use lib.Dec.{eqb, leb}
-use Rattle.text.specs.Decimal.{numberOf}
-use Rattle.text.specs.declared.decimal.Number.{Number}
-use Rattle.text.specs.declared.decimal.Number.the-variants.{Is, NoNumber}
+use Rattle.buffer.specs.Decimal.{numberOf}
+use Rattle.buffer.specs.declared.decimal.Number.{Number}
+use Rattle.buffer.specs.declared.decimal.Number.the-variants.{Is, NoNumber}
 use Rattle.replay.specs.declared.header.Header.{Header}
 use Rattle.replay.specs.declared.header.Header.the-variants.{Case, IllFormed}
 

@@ -1,8 +1,8 @@
 // A stored case's header: the text's length and the output's size, six digits each, with a space between and LF behind.
 ghost use mathlib.Core.Path.{_≡_};
 ghost use Rattle.replay.specs.Header.{caseOf, headerOf};
-use text::decimal;
-use text::decimal::Number;
+use buffer::decimal;
+use buffer::decimal::Number;
 
 const MOST_TEXT: usize = 16_384;
 

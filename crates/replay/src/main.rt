@@ -34,7 +34,7 @@ fn replay_text(text: &mut [u8], out: &mut [u8]) -> bool {
         print_ill_formed();
         return false;
     }
-    let a = marker::scan(text, out);
+    let a = listing::scan(text, out);
     print::numbers(answer::numbers(a));
     if let Answer::Accepted { length, files: _ } = a {
         io::write_all(STDOUT_FILENO, &out[..length]);

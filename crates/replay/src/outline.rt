@@ -1,8 +1,7 @@
 // The outline of a text: a row for each heading, with its anchor, and for each quoted line.
 ghost use Prim.Native.Nat.{_≤_, _<_};
 use crate::print;
-use heading::anchor;
-use heading::anchor::AnchorByte;
+use anchor::AnchorByte;
 use heading::walk;
 use heading::walk::LineKind;
 use heading::walk::WalkState;

@@ -180,3 +180,24 @@ part-length s a e = omega (arith, length-take (e - a) (drop a s))
 
 pub part-full : (s : List ℕ) (a e : ℕ) → e ≤ length s → length (part a e s) ≡ e - a
 part-full s a e h = ap length (sym (drop-take s a e)) ∙ length-slice a e s h
+
+-- behind the last byte that passes none does, so a search from there on and one from a later place of that part agree
+after-rest : (f : ℕ → Bool) (s : List ℕ) → any f (drop (afterLast f s) s) ≡ false
+unfolding afterLast any
+after-rest f [] = refl
+after-rest f (x ∷ s) = go (f x) refl (afterLast f s) (after-rest f s)
+  where
+    go : (b : Bool) → f x ≡ b → (m : ℕ) → any f (drop m s) ≡ false → any f (drop (elim m [ zero ↦ cond b 1 0 | suc k ↦ suc (suc k) ]) (x ∷ s)) ≡ false
+    go true e zero h = h
+    go false e zero h = rw e h
+    go b e (suc k) h = h
+
+pub last-block : (f : ℕ → Bool) (s : List ℕ) (a p b : ℕ) → a ≤ p → p ≤ length s → b ≡ a + afterLast f (part a p s)
+    → p + first f (drop p s) ≡ b + first f (drop b s)
+last-block f s a p b h k e =
+    let n = after-le f (part a p s) in
+    let m = part-length s a p in
+    let q : p - a - afterLast f (part a p s) ≡ p - b = omega arith in
+    let w : drop (afterLast f (part a p s)) (part a p s) ≡ part b p s =
+    drop-take (drop a s) (afterLast f (part a p s)) (p - a) ∙ rw (drop-drop, q, e) in
+    first-block f s b p (omega arith) k (rw w at (after-rest f (part a p s)))

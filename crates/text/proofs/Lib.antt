@@ -1,6 +1,5 @@
-pub mod BufferLaws
-pub mod DecimalLaws
 pub mod BytesLaws
+pub mod FirstLaws
 pub mod AsciiLaws
 pub mod PatternLaws
 pub mod SplitLaws

@@ -1,6 +1,6 @@
--- Bytes 80 hex and above, which a text may not hold.
-use Prim.Native.Nat.{ℕ, suc}
-use mathlib.Core.Bool.{Bool, cond}
+-- Bytes 80 hex and above, which a text may not hold; digits, and letters in lower case.
+use Prim.Native.Nat.{ℕ, suc, _+_}
+use mathlib.Core.Bool.{Bool, cond, _&&_}
 use mathlib.Core.List.{List, [], _∷_}
 use lib.Dec.{eqb, leb}
 use Rattle.text.specs.Lines.{LF}
@@ -13,3 +13,11 @@ isWide x = leb 0x80 x
 unfoldable pub wideLine : ℕ → List ℕ → ℕ
 wideLine n [] = 0
 wideLine n (x ∷ s) = cond (isWide x) n (wideLine (cond (eqb x LF) (suc n) n) s)
+
+-- "0" to "9"
+abbrev pub isDigit : ℕ → Bool
+isDigit x = leb 0x30 x && leb x 0x39
+
+-- "lowercased": A to Z as a to z, any other byte as it is
+unfoldable pub lower : ℕ → ℕ
+lower x = cond (leb 0x41 x && leb x 0x5A) (x + 32) x

@@ -1,6 +1,6 @@
 -- Texts are lists of bytes. A place in a text is the count of the bytes before it; a part of a text is a take of a drop.
 use Prim.Native.Nat.{ℕ, zero, suc, _-_}
-use mathlib.Core.Bool.{Bool, false, cond, _||_}
+use mathlib.Core.Bool.{Bool, true, false, cond, _||_}
 use mathlib.Core.List.{List, [], _∷_}
 use lib.ListN.{take, drop}
 use lib.Dec.{eqb}
@@ -12,6 +12,11 @@ part a e s = take (e - a) (drop a s)
 -- the test of a byte x that it is b
 abbrev pub is : ℕ → ℕ → Bool
 is b x = eqb x b
+
+-- what is so or not, as a number: 1 or 0
+abbrev pub bit : Bool → ℕ
+bit true = 1
+bit false = 0
 
 -- whether a byte of s passes the test f
 unfoldable pub any : (ℕ → Bool) → List ℕ → Bool

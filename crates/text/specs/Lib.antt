@@ -1,7 +1,7 @@
 pub mod Bytes
 pub mod Pattern
 pub mod Space
+pub mod First
 pub mod Split
 pub mod Lines
-pub mod Decimal
 pub mod Ascii

@@ -1,9 +1,9 @@
-// Bytes 80 hex and above.
+// Bytes 80 hex and above, and letters in lower case.
 ghost use mathlib.Core.Path.{_≡_};
 ghost use Prim.Native.Nat.{_+_, _≤_};
 ghost use lib.ListN.{length, drop};
 ghost use Rattle.text.specs.Bytes.{any, first};
-ghost use Rattle.text.specs.Ascii.{isWide, wideLine};
+ghost use Rattle.text.specs.Ascii.{isWide, wideLine, lower as lowerOf};
 use crate::bytes;
 
 // Whether s has such a byte.
@@ -58,4 +58,16 @@ pub fn wide_line(s: &[u8]) -> usize
         return 0;
     }
     1 + bytes::count_byte(&s[..p], b'\n')
+}
+
+// A byte in lower case.
+pub fn lower(b: u8) -> u8
+    ensures { λ r. ⌜ r ≡ lowerOf b ⌝ }
+{
+    if 0x41 <= b {
+        if b <= 0x5A {
+            return b + 32;
+        }
+    }
+    b
 }

@@ -3,7 +3,17 @@
 ghost use mathlib.Core.Path.{_≡_};
 ghost use Prim.Native.Nat.{_+_, _≤_};
 ghost use lib.ListN.{length, take, drop};
-ghost use Rattle.text.specs.Bytes.{is, any, first, count as countOf, afterLast};
+ghost use Rattle.text.specs.Bytes.{is, bit as bitOf, any, first, count as countOf, afterLast};
+
+// 1 or 0.
+pub fn bit(b: bool) -> usize
+    ensures { λ r. ⌜ r ≡ bitOf b ⌝ }
+{
+    if b {
+        return 1;
+    }
+    0
+}
 
 // Whether b stands in s.
 pub fn has(s: &[u8], b: u8) -> bool

@@ -4,8 +4,8 @@ ghost use mathlib.Core.List.{_∷_};
 ghost use Prim.Native.Nat.{_+_, _≤_, _<_};
 ghost use lib.ListN.{length, drop};
 ghost use lib.Dec.{eqb};
-ghost use Rattle.text.specs.Bytes.{part};
-ghost use Rattle.text.specs.Lines.{lines, lineEnd, lineNext, pieces, piecesAfter};
+ghost use Rattle.text.specs.Bytes.{part, is, first};
+ghost use Rattle.text.specs.Lines.{LF, lines, lineEnd, lineNext, pieces, piecesAfter};
 use crate::bytes;
 
 // Where a line ends, without its LF and a CR before that, and where the next one starts.
@@ -14,13 +14,13 @@ pub struct LineEnds {
     pub next: usize,
 }
 
-// The line that starts at a place.
-pub fn line(s: &[u8], from: usize) -> LineEnds
-    requires { ⌜ from < length (now s) ⌝ }
+// The line that starts at a place, where no LF stands before another place, seen.
+pub fn line(s: &[u8], from: usize, seen: usize) -> LineEnds
+    requires { ⌜ (from < length (now s)) × ((seen ≤ length (now s)) × (seen + first (is LF) (drop seen (now s)) ≡ from + first (is LF) (drop from (now s)))) ⌝ }
     ensures { λ r. ⌜ (r .end ≡ from + lineEnd (drop from (now (s .entry)))) × (r .next ≡ from + lineNext (drop from (now (s .entry)))) ⌝ }
     ensures { λ r. ⌜ (from ≤ r .end) × ((r .end ≤ r .next) × ((from < r .next) × (r .next ≤ length (now (s .entry))))) ⌝ }
 {
-    let e = bytes::find_byte(s, from, b'\n');
+    let e = bytes::find_byte(s, seen, b'\n');
     if e == s.len() {
         return LineEnds { end: e, next: e };
     }

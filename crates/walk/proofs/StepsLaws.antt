@@ -13,7 +13,7 @@ use Rattle.answer.specs.Answer.{number}
 use Rattle.answer.specs.declared.Refusal.{Refusal}
 use Rattle.answer.specs.declared.Refusal.the-variants.{Allowance, TextLimit}
 use Rattle.walk.specs.Parts.{andThen, Part, good, flawed, partMade, partFaults}
-use Rattle.walk.specs.Steps.{Steps, done, failed, sized, taken, go, part, ends, fails, takes, sizes, given, refused, judge, judgedNumber}
+use Rattle.walk.specs.Steps.{Judged, Steps, done, failed, sized, taken, go, part, ends, fails, takes, sizes, given, refused, judge, judgedNumber}
 use Rattle.walk.proofs.Sums.{total}
 
 pub ends-go : {A B : Type 0} (w : Steps A) (g : A → Steps B) → ends (go w g) ≡ andThen (ends w) (λ a. ends (g a))
@@ -186,3 +186,24 @@ refused-judge B L n (taken p w) x e = at-test (ltb n B) refl e (λ q. refused-ju
     at-test : (b : Bool) → ltb n B ≡ b → cond b (judge B L (suc n) w) (refused (Allowance p)) ≡ refused x → (judge B L (suc n) w ≡ refused x → Grounds B L (suc n) w x) → Grounds B L n (taken p w) x
     at-test true q h ih = more (ih h)
     at-test false q h ih = let z : Allowance p ≡ x = cc in inr (inl (ap number (sym z), omega (arith, ltb-false n B q)))
+
+abbrev pub judgeThen : {A C : Type 0} → Judged A → (A → ℕ → Judged C) → Judged C
+judgeThen (given a n) k = k a n
+judgeThen (refused x) k = refused x
+
+pub judge-go : {A C : Type 0} (B L n : ℕ) (w : Steps A) (g : A → Steps C) → judge B L n (go w g) ≡ judgeThen (judge B L n w) (λ a m. judge B L m (g a))
+unfolding judge go
+judge-go B L n (done a) g = refl
+judge-go B L n (failed x) g = refl
+judge-go B L n (sized t p w) g = at-test (leb (length t) L) (judge-go B L n w g)
+  where
+    at-test : (b : Bool) → judge B L n (go w g) ≡ judgeThen (judge B L n w) (λ a m. judge B L m (g a))
+        → cond b (judge B L n (go w g)) (refused (TextLimit p)) ≡ judgeThen (cond b (judge B L n w) (refused (TextLimit p))) (λ a m. judge B L m (g a))
+    at-test true h = h
+    at-test false h = refl
+judge-go B L n (taken p w) g = at-test (ltb n B) (judge-go B L (suc n) w g)
+  where
+    at-test : (b : Bool) → judge B L (suc n) (go w g) ≡ judgeThen (judge B L (suc n) w) (λ a m. judge B L m (g a))
+        → cond b (judge B L (suc n) (go w g)) (refused (Allowance p)) ≡ judgeThen (cond b (judge B L (suc n) w) (refused (Allowance p))) (λ a m. judge B L m (g a))
+    at-test true h = h
+    at-test false h = refl

@@ -1,6 +1,6 @@
 -- `leaves::leaf_anchor` meets its contract: the call's answer, as a number. Assumes nothing.
 use mathlib.Core.Path.{ap, _∙_}
-use Rattle.leaves.specs.Leaf.{one}
+use Rattle.leaf.specs.Leaf.{one}
 use borrow.Author.Needs.{needs}
 use Rattle.leaves.proofs.leaf_anchor.Statement.{statement}
 use Rattle.leaves.proofs.leaf_anchor.Tie as tie

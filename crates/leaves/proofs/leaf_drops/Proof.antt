@@ -1,6 +1,7 @@
 -- `leaves::leaf_drops` meets its contract: the call's answer, as a number. Assumes nothing.
 use mathlib.Core.Path.{ap, _∙_}
-use Rattle.leaves.specs.Leaf.{one, bit}
+use Rattle.leaf.specs.Leaf.{one}
+use Rattle.text.specs.Bytes.{bit}
 use borrow.Author.Needs.{needs}
 use Rattle.leaves.proofs.leaf_drops.Statement.{statement}
 use Rattle.leaves.proofs.leaf_drops.Tie as tie
@@ -8,14 +9,14 @@ use Rattle.leaves.proofs.leaf_drops.Tie as tie
 drops-requires : tie.Need-drops-requires
 drops-requires c κs = search needs
 
-of-bool-requires : tie.Need-of-bool-requires
-of-bool-requires c κs = search needs
+bit-requires : tie.Need-bit-requires
+bit-requires c κs = search needs
 
 one-requires : tie.Need-one-requires
 one-requires c κs = search needs
 
 returns : tie.Need-returns
-returns c = c .one .ensures ∙ ap one (c .before .of-bool .ensures ∙ ap bit (c .before .before .drops .ensures))
+returns c = c .one .ensures ∙ ap one (c .before .bit .ensures ∙ ap bit (c .before .before .drops .ensures))
 
 pub leaf-drops-spec : {M : Type 1} → statement M
-leaf-drops-spec = tie.close (tie.spec drops-requires of-bool-requires one-requires returns)
+leaf-drops-spec = tie.close (tie.spec drops-requires bit-requires one-requires returns)

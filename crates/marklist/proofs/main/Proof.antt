@@ -2,7 +2,7 @@
 use mathlib.Core.Path.{sym, _∙_}
 use native.Mathlib.Omega.{arith}
 use lib.Seq.{length-take-le}
-use Rattle.marker.proofs.CallLaws.{accepted-within}
+use Rattle.listing.proofs.CallLaws.{accepted-within}
 use borrow.Author.Needs.{needs}
 use Rattle.marklist.proofs.main.Statement.{statement}
 use Rattle.marklist.proofs.main.Tie as tie

@@ -2,7 +2,7 @@
 use mathlib.Core.Path.{sym, _∙_}
 use native.Mathlib.Omega.{arith}
 use lib.Seq.{length-take-le}
-use Rattle.marker.proofs.CallLaws.{accepted-within}
+use Rattle.listing.proofs.CallLaws.{accepted-within}
 use borrow.Author.Needs.{needs}
 use Rattle.replay.proofs.replay_text.Statement.{statement}
 use Rattle.replay.proofs.replay_text.Tie as tie

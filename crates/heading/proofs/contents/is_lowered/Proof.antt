@@ -6,7 +6,8 @@ use lib.ListN.{length, drop}
 use borrow.Author.Needs.{needs}
 use Rattle.text.specs.Pattern.{startsWith}
 use Rattle.text.proofs.PatternLaws.{starts-end}
-use Rattle.heading.specs.Contents.{lower, isLowered}
+use Rattle.text.specs.Ascii.{lower}
+use Rattle.heading.specs.Contents.{isLowered}
 use Rattle.heading.proofs.ContentsLaws.{lowered-long, lowered-starts, lowered-more, lowered-differs}
 use Rattle.heading.proofs.contents.is_lowered.Statement.{statement}
 use Rattle.heading.proofs.contents.is_lowered.Tie as tie
@@ -34,7 +35,9 @@ shared-slice-read-if2 c = search needs
 
 returns-2 : tie.Need-returns-2 Inv-loop μ-loop
 returns-2 c =
-    sym (c .before .before .before .before .before .loop .inv .1 ∙ lowered-differs (c .before .before .before .before .before .before .before .before .before .args .p .now) (c .before .before .before .before .before .before .before .before .before .args .s .now) (c .before .before .before .before .before .loop .i) (c .before .before .before .before .loop-test .taken) (c .before .before .before .before .before .before .if1 .left) (λ q. c .if2 .taken (c .before .before .lower .ensures ∙ q)))
+    let a = c .before .before .before .before .before .before .before .before .before .args in
+    let l = c .before .before .before .before .before .loop in
+    sym (l .inv .1 ∙ lowered-differs (a .p .now) (a .s .now) (l .i) (c .before .before .before .before .loop-test .taken) (c .before .before .before .before .before .before .if1 .left) (λ q. c .if2 .taken (c .before .before .lower .ensures ∙ q)))
 
 add-i : tie.Need-add-i Inv-loop μ-loop
 add-i c = search needs
@@ -44,7 +47,10 @@ loop-less c = search needs
 
 loop-again : tie.Need-loop-again Inv-loop μ-loop
 loop-again c =
-    (search needs, c .before .before .before .before .before .loop .inv .1 ∙ lowered-more (c .before .before .before .before .before .before .before .before .before .args .p .now) (c .before .before .before .before .before .before .before .before .before .args .s .now) (c .before .before .before .before .before .loop .i) (c .before .before .before .before .loop-test .taken) (c .before .before .before .before .before .before .if1 .left) (sym (c .before .before .lower .ensures) ∙ c .if2 .left))
+    let a = c .before .before .before .before .before .before .before .before .before .args in
+    let l = c .before .before .before .before .before .loop in
+    let e = sym (c .before .before .lower .ensures) ∙ c .if2 .left in
+    (search needs, l .inv .1 ∙ lowered-more (a .p .now) (a .s .now) (l .i) (c .before .before .before .before .loop-test .taken) (c .before .before .before .before .before .before .if1 .left) e)
 
 returns-3 : tie.Need-returns-3 Inv-loop μ-loop
 returns-3 c = sym (c .before .loop .inv .1 ∙ starts-end _ _ _ (c .loop-test .left))

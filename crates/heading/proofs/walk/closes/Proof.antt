@@ -1,13 +1,12 @@
--- `walk::closes` meets its contract: each arm by the fence that was matched. Assumes nothing.
-use Rattle.text.specs.Space.{trimStart}
-use Rattle.text.proofs.BytesLaws.{rest}
-use Rattle.heading.specs.Walk.{closes}
+-- `walk::closes` meets its contract: by the open fence and the one that the line opens. Assumes nothing.
+use mathlib.Core.Path.{sym, _∙_}
 use borrow.Author.Needs.{needs}
+use Rattle.heading.specs.Walk.{closes}
 use Rattle.heading.proofs.walk.closes.Statement.{statement}
 use Rattle.heading.proofs.walk.closes.Tie as tie
 
-lead-requires : tie.Need-lead-requires
-lead-requires c κs = search needs
+opening-fence-requires : tie.Need-opening-fence-requires
+opening-fence-requires c κs = search needs
 
 enum-told : tie.Need-enum-told
 enum-told c = search needs
@@ -15,69 +14,73 @@ enum-told c = search needs
 enum-told-2 : tie.Need-enum-told-2
 enum-told-2 c = search needs
 
-sub-starts-with : tie.Need-sub-starts-with
-sub-starts-with c = search needs
-
-part-starts-with-start : tie.Need-part-starts-with-start
-part-starts-with-start c = search needs
-
-part-starts-with-end : tie.Need-part-starts-with-end
-part-starts-with-end c = search needs
-
-slice-aggregate-starts-with : tie.Need-slice-aggregate-starts-with
-slice-aggregate-starts-with c = search needs
-
-starts-with-requires : tie.Need-starts-with-requires
-starts-with-requires c κs = search needs
-
 enum-told-3 : tie.Need-enum-told-3
 enum-told-3 c = search needs
 
-sub-starts-with-2 : tie.Need-sub-starts-with-2
-sub-starts-with-2 c = search needs
+enum-told-4 : tie.Need-enum-told-4
+enum-told-4 c = search needs
 
-part-starts-with-start-2 : tie.Need-part-starts-with-start-2
-part-starts-with-start-2 c = search needs
+enum-told-5 : tie.Need-enum-told-5
+enum-told-5 c = search needs
 
-part-starts-with-end-2 : tie.Need-part-starts-with-end-2
-part-starts-with-end-2 c = search needs
+enum-told-6 : tie.Need-enum-told-6
+enum-told-6 c = search needs
 
-slice-aggregate-starts-with-2 : tie.Need-slice-aggregate-starts-with-2
-slice-aggregate-starts-with-2 c = search needs
+enum-told-7 : tie.Need-enum-told-7
+enum-told-7 c = search needs
 
-starts-with-requires-2 : tie.Need-starts-with-requires-2
-starts-with-requires-2 c κs = search needs
+enum-told-8 : tie.Need-enum-told-8
+enum-told-8 c = search needs
+
+enum-told-9 : tie.Need-enum-told-9
+enum-told-9 c = search needs
 
 returns : tie.Need-returns
 unfolding closes
 returns c = rw (c .enum-told .given .1)
 
 returns-2 : tie.Need-returns-2
-unfolding closes trimStart
-returns-2 c = rw (c .before .before .before .enum-told2 .given .1, ← (c .before .before .before .before .before .lead .ensures .0)) (rw rest at (c .starts-with .ensures))
+unfolding closes
+returns-2 c = rw (c .before .before .enum-told2 .given .1, sym (c .before .before .before .before .opening-fence .ensures) ∙ c .enum-told3 .given .1)
 
 returns-3 : tie.Need-returns-3
-unfolding closes trimStart
-returns-3 c = rw (c .before .before .before .enum-told3 .given .1, ← (c .before .before .before .before .before .lead .ensures .0)) (rw rest at (c .starts-with2 .ensures))
+unfolding closes
+returns-3 c = rw (c .before .before .enum-told2 .given .1, sym (c .before .before .before .before .opening-fence .ensures) ∙ c .enum-told4 .given .1)
+
+returns-4 : tie.Need-returns-4
+unfolding closes
+returns-4 c = rw (c .before .before .enum-told2 .given .1, sym (c .before .before .before .before .opening-fence .ensures) ∙ c .enum-told5 .given .1)
+
+returns-5 : tie.Need-returns-5
+unfolding closes
+returns-5 c = rw (c .before .before .enum-told6 .given .1, sym (c .before .before .before .before .opening-fence .ensures) ∙ c .enum-told7 .given .1)
+
+returns-6 : tie.Need-returns-6
+unfolding closes
+returns-6 c = rw (c .before .before .enum-told6 .given .1, sym (c .before .before .before .before .opening-fence .ensures) ∙ c .enum-told8 .given .1)
+
+returns-7 : tie.Need-returns-7
+unfolding closes
+returns-7 c = rw (c .before .before .enum-told6 .given .1, sym (c .before .before .before .before .opening-fence .ensures) ∙ c .enum-told9 .given .1)
 
 pub closes-spec : {M : Type 1} → statement M
 closes-spec =
     tie.close
     (tie.spec
-    lead-requires
+    opening-fence-requires
     enum-told
     enum-told-2
-    sub-starts-with
-    part-starts-with-start
-    part-starts-with-end
-    slice-aggregate-starts-with
-    starts-with-requires
     enum-told-3
-    sub-starts-with-2
-    part-starts-with-start-2
-    part-starts-with-end-2
-    slice-aggregate-starts-with-2
-    starts-with-requires-2
+    enum-told-4
+    enum-told-5
+    enum-told-6
+    enum-told-7
+    enum-told-8
+    enum-told-9
     returns
     returns-2
-    returns-3)
+    returns-3
+    returns-4
+    returns-5
+    returns-6
+    returns-7)

@@ -36,7 +36,8 @@ starts-with-requires c κs = search needs
 returns-3 : tie.Need-returns-3
 unfolding headingOf
 returns-3 c =
-    rw (← (c .before .before .before .before .before .before .hashes .ensures .0), le-leb _ _ (c .before .before .before .before .before .if1 .left), le-leb _ _ (c .before .before .before .before .if2 .left), rw rest at (sym (c .before .starts-with .ensures) ∙ not-true _ (c .if3 .taken)))
+    let e = sym (c .before .starts-with .ensures) ∙ not-true _ (c .if3 .taken) in
+    rw (← (c .before .before .before .before .before .before .hashes .ensures .0), le-leb _ _ (c .before .before .before .before .before .if1 .left), le-leb _ _ (c .before .before .before .before .if2 .left), rw rest at e)
 
 sub-lead : tie.Need-sub-lead
 sub-lead c = search needs
@@ -71,7 +72,11 @@ add-e c = search needs
 returns-4 : tie.Need-returns-4
 unfolding headingOf textStart textEnd
 returns-4 c =
-    rw (← (c .before .before .before .before .before .before .before .before .before .before .hashes .ensures .0), le-leb _ _ (c .before .before .before .before .before .before .before .before .before .if1 .left), le-leb _ _ (c .before .before .before .before .before .before .before .before .if2 .left), rw rest at (sym (c .before .before .before .before .before .starts-with .ensures) ∙ not-false _ (c .before .before .before .before .if3 .left)), ← (rw rest at (c .before .before .lead .ensures .0)), ← (rw rest at (c .kept .ensures .0)))
+    let n = c .before .before .before .before .before .before .before .before .before .before .hashes .ensures .0 in
+    let e = sym (c .before .before .before .before .before .starts-with .ensures) ∙ not-false _ (c .before .before .before .before .if3 .left) in
+    let l = rw rest at (c .before .before .lead .ensures .0) in
+    let k = rw rest at (c .kept .ensures .0) in
+    rw (← n, le-leb _ _ (c .before .before .before .before .before .before .before .before .before .if1 .left), le-leb _ _ (c .before .before .before .before .before .before .before .before .if2 .left), rw rest at e, ← l, ← k)
 
 pub split-heading-spec : {M : Type 1} → statement M
 split-heading-spec =

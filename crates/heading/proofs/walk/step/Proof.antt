@@ -1,6 +1,6 @@
 -- `walk::step` meets its contract: each arm by the fence that is open. Assumes nothing.
 use mathlib.Core.Path.{ap}
-use Rattle.heading.specs.Walk.{kindOf, after}
+use Rattle.heading.specs.Walk.{stepKind, stepAfter}
 use Rattle.heading.specs.declared.walk.WalkStep.{WalkStep}
 use borrow.Author.Needs.{needs}
 use Rattle.heading.proofs.walk.step.Statement.{statement}
@@ -28,14 +28,14 @@ returns : tie.Need-returns
 returns c = rw (c .before .enum-told .given .1) (c .outside .ensures)
 
 returns-2 : tie.Need-returns-2
-unfolding kindOf after
+unfolding stepKind stepAfter
 returns-2 c =
     let e = c .before .enum-told2 .given .1 in
     let q = rw e at (c .inside .ensures) in
     (rw e (ap (λ (w : WalkStep). w .kind) q), rw e (ap (λ (w : WalkStep). w .state) q))
 
 returns-3 : tie.Need-returns-3
-unfolding kindOf after
+unfolding stepKind stepAfter
 returns-3 c =
     let e = c .before .enum-told3 .given .1 in
     let q = rw e at (c .inside2 .ensures) in

@@ -1,7 +1,7 @@
 -- `links::leaf_resolve` meets its contract: the length as a number, and the bytes where there is room. Assumes nothing.
 use mathlib.Core.Path.{ap, _∙_}
-use Rattle.link.specs.Path.{resolve}
-use Rattle.leaves.specs.Leaf.{one}
+use Rattle.path.specs.Path.{resolve}
+use Rattle.leaf.specs.Leaf.{one}
 use Rattle.leaves.proofs.WrittenLaws.{short, roomy}
 use borrow.Author.Needs.{needs}
 use Rattle.leaves.proofs.links.leaf_resolve.Statement.{statement}

@@ -1,6 +1,6 @@
 -- `links::leaf_target` meets its contract: the target, as numbers. Assumes nothing.
 use mathlib.Core.Path.{ap, _∙_}
-use Rattle.leaves.specs.Link.{targetNumbers}
+use Rattle.leaf.specs.Link.{targetNumbers}
 use borrow.Author.Needs.{needs}
 use Rattle.leaves.proofs.links.leaf_target.Statement.{statement}
 use Rattle.leaves.proofs.links.leaf_target.Tie as tie

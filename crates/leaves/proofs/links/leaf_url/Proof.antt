@@ -2,7 +2,7 @@
 use mathlib.Core.Path.{ap, sym, _∙_}
 use lib.ListN.{length}
 use lib.Seq.{length-take-le}
-use Rattle.leaves.specs.Leaf.{one}
+use Rattle.leaf.specs.Leaf.{one}
 use borrow.Author.Needs.{needs}
 use Rattle.leaves.proofs.links.leaf_url.Statement.{statement}
 use Rattle.leaves.proofs.links.leaf_url.Tie as tie

@@ -11,28 +11,25 @@ use borrow.Author.Needs.{needs}
 use Rattle.marker.proofs.line.fragment_kind.Statement.{statement}
 use Rattle.marker.proofs.line.fragment_kind.Tie as tie
 
-fragment-spec-requires : tie.Need-fragment-spec-requires
-fragment-spec-requires c κs = search needs
-
-enum-known-f : tie.Need-enum-known-f
-enum-known-f c = search needs
+enum-known-fragment : tie.Need-enum-known-fragment
+enum-known-fragment c = search needs
 
 returns : tie.Need-returns
 unfolding fragmentKind
-returns c = rw (sym (c .before .before .before .before .fragment-spec .ensures) ∙ c .before .before .f .given .1, c .if1 .taken)
+returns c = rw (c .before .before .fragment .given .1, c .if1 .taken)
 
 enum-told : tie.Need-enum-told
 enum-told c = search needs
 
 -- the first marker lies within the line
-within : (c : tie.After-enum-told) → c .before .before .before .before .args .i ≤ length (c .before .before .before .before .args .line .now)
-within c = omega (arith, find-within OPEN (c .before .before .before .before .args .line .now) (c .before .before .before .before .args .i) (c .before .before .before .before .pre .1))
+within : (c : tie.After-enum-told) → c .before .before .before .args .i ≤ length (c .before .before .before .args .line .now)
+within c = omega (arith, find-within OPEN (c .before .before .before .args .line .now) (c .before .before .before .args .i) (c .before .before .before .pre))
 
 -- the line holds a fragment marker where one stands from its first marker on
-sought : (c : tie.After-contains) → contains OPEN-FRAGMENT (c .before .before .before .before .before .before .before .args .line .now) ≡ c .contains .result
+sought : (c : tie.After-contains) → contains OPEN-FRAGMENT (c .before .before .before .before .before .before .args .line .now) ≡ c .contains .result
 sought c =
-    let s = c .before .before .before .before .before .before .before in
-    contains-longer OPEN (bytes "fragment:") (s .args .line .now) (s .args .i) (s .pre .1) ∙ sym (rw rest at (c .contains .ensures))
+    contains-longer OPEN (bytes "fragment:") (c .before .before .before .before .before .before .args .line .now) (c .before .before .before .before .before .before .args .i) (c .before .before .before .before .before .before .pre)
+    ∙ sym (rw rest at (c .contains .ensures))
 
 sub-contains : tie.Need-sub-contains
 sub-contains c = within c
@@ -51,22 +48,21 @@ contains-requires c κs = search needs
 
 returns-2 : tie.Need-returns-2
 unfolding fragmentKind
-returns-2 c = rw (sym (c .before .before .before .before .before .before .fragment-spec .ensures) ∙ c .before .before .before .before .enum-told .given .1, sought (c .before) ∙ c .if2 .taken)
+returns-2 c = rw (c .before .before .before .before .enum-told .given .1, sought (c .before) ∙ c .if2 .taken)
 
 returns-3 : tie.Need-returns-3
 unfolding fragmentKind
-returns-3 c = rw (sym (c .before .before .before .before .fragment-spec .ensures) ∙ c .before .before .f .given .1, c .if1 .left)
+returns-3 c = rw (c .before .before .fragment .given .1, c .if1 .left)
 
 returns-4 : tie.Need-returns-4
 unfolding fragmentKind
-returns-4 c = rw (sym (c .before .before .before .before .before .before .fragment-spec .ensures) ∙ c .before .before .before .before .enum-told .given .1, sought (c .before) ∙ c .if2 .left)
+returns-4 c = rw (c .before .before .before .before .enum-told .given .1, sought (c .before) ∙ c .if2 .left)
 
 pub fragment-kind-spec : {M : Type 1} → statement M
 fragment-kind-spec =
     tie.close
     (tie.spec
-    fragment-spec-requires
-    enum-known-f
+    enum-known-fragment
     returns
     enum-told
     sub-contains

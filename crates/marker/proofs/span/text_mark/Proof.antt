@@ -1,10 +1,11 @@
 -- `marker::span::text_mark` meets its contract: each return rewrites with the tests that led there. Assumes nothing.
 use Prim.Native.Nat.{_+_, _≤_}
-use mathlib.Core.Path.{sym, _∙_}
+use mathlib.Core.Path.{_≡_, sym, _∙_}
 use native.Mathlib.Omega.{arith}
-use borrow.Author.Tests.{eq-eqb, ne-eqb}
 use lib.ListN.{length}
 use lib.Seq.{length-take-le}
+use Rattle.text.specs.declared.pattern.Found.the-variants.{At}
+use Rattle.text.specs.Pattern.{find}
 use Rattle.text.proofs.PatternLaws.{find-within}
 use Rattle.marker.specs.Marker.{textOf, CLOSE}
 use borrow.Author.Needs.{needs}
@@ -20,9 +21,13 @@ find-requires c κs = search needs
 enum-known-f : tie.Need-enum-known-f
 enum-known-f c = search needs
 
--- the closer that is found lies within b
+-- the closer that is found
+closer : (c : tie.After-known-told) → find CLOSE (c .before .before .before .before .before .before .args .b .now) ≡ At (c .before .f .given .0 .0)
+closer c = sym (c .before .before .before .find .ensures) ∙ c .before .f .given .1
+
+-- it lies within b
 found : (c : tie.After-known-told) → c .before .f .given .0 .0 + 10 ≤ length (c .before .before .before .before .before .before .args .b .now)
-found c = find-within CLOSE _ _ (sym (c .before .before .before .find .ensures) ∙ c .before .f .given .1)
+found c = find-within CLOSE _ _ (closer c)
 
 slice-aggregate-contains : tie.Need-slice-aggregate-contains
 slice-aggregate-contains c = sym (length-take-le _ _ (omega (arith, found (c .before))))
@@ -35,14 +40,11 @@ contains-requires c κs = search needs
 
 returns : tie.Need-returns
 unfolding textOf
-returns c = rw (sym (c .before .before .before .before .before .before .before .find .ensures) ∙ c .before .before .before .before .before .f .given .1, sym (c .before .contains .ensures) ∙ c .if1 .taken)
+returns c = rw (closer (c .before .before .before .before), sym (c .before .contains .ensures) ∙ c .if1 .taken)
 
 returns-2 : tie.Need-returns-2
 unfolding textOf
-returns-2 c = rw (sym (c .before .before .before .before .before .before .before .before .find .ensures) ∙ c .before .before .before .before .before .before .f .given .1, sym (c .before .before .contains .ensures) ∙ c .before .if1 .left, eq-eqb _ _ (c .if2 .taken))
-
-add-t17 : tie.Need-add-t17
-add-t17 c = search needs
+returns-2 c = rw (closer (c .before .before .before .before .before), sym (c .before .before .contains .ensures) ∙ c .before .if1 .left, c .if2 .taken)
 
 add-t18 : tie.Need-add-t18
 add-t18 c = search needs
@@ -57,14 +59,17 @@ add-t21 : tie.Need-add-t21
 add-t21 c = search needs
 
 add-t22 : tie.Need-add-t22
-add-t22 c = omega (arith, found (c .before .before .before .before .before))
+add-t22 c = search needs
+
+add-t23 : tie.Need-add-t23
+add-t23 c = omega (arith, found (c .before .before .before .before .before))
 
 enum-told : tie.Need-enum-told
 enum-told c = search needs
 
 returns-3 : tie.Need-returns-3
 unfolding textOf
-returns-3 c = rw (sym (c .before .before .before .before .before .before .before .before .find .ensures) ∙ c .before .before .before .before .before .before .f .given .1, sym (c .before .before .contains .ensures) ∙ c .before .if1 .left, ne-eqb _ _ (c .if2 .left))
+returns-3 c = rw (closer (c .before .before .before .before .before), sym (c .before .before .contains .ensures) ∙ c .before .if1 .left, c .if2 .left)
 
 returns-4 : tie.Need-returns-4
 unfolding textOf
@@ -82,12 +87,12 @@ text-mark-spec =
     contains-requires
     returns
     returns-2
-    add-t17
     add-t18
     add-t19
     add-t20
     add-t21
     add-t22
+    add-t23
     enum-told
     returns-3
     returns-4)

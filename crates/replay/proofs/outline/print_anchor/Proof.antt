@@ -5,12 +5,12 @@ use native.Mathlib.Omega.{arith}
 use lib.ListN.{length, length-set}
 use lib.Seq.{length-take-le}
 use borrow.Author.Needs.{needs}
-use Rattle.heading.specs.Anchor.{Within}
+use Rattle.anchor.specs.Anchor.{CursorWithin}
 use Rattle.replay.proofs.outline.print_anchor.Statement.{statement}
 use Rattle.replay.proofs.outline.print_anchor.Tie as tie
 
 abbrev Inv-loop : tie.InvT-loop
-Inv-loop text block₀ used₀ c₀ block used c = Within c text × ((used < 64) × (64 ≡ length block))
+Inv-loop text block₀ used₀ c₀ block used c = CursorWithin c text × ((used < 64) × (64 ≡ length block))
 
 abbrev μ-loop : tie.MeasureT-loop
 μ-loop text block₀ used₀ c₀ block used c = length text - c .at

@@ -1,7 +1,7 @@
 -- `outline::print_line` ends, and lends a heading's text, which lies within its line. Assumes nothing.
 use mathlib.Core.Path.{_≡_, sym, _∙_}
 use native.Mathlib.Omega.{arith}
-use Rattle.heading.specs.Walk.{kindOf}
+use Rattle.heading.specs.Walk.{stepKind}
 use Rattle.heading.specs.declared.walk.LineKind.the-variants.{Heading}
 use Rattle.heading.proofs.WalkLaws.{kind-within}
 use borrow.Author.Needs.{needs}
@@ -22,7 +22,7 @@ enum-known-kind c = search needs
 
 -- the heading that was matched
 told : (c : tie.After-kind)
-    → kindOf (c .before .before .before .before .args .state .fence) (c .before .before .before .before .args .state .comment) (c .before .before .before .before .args .line .now)
+    → stepKind (c .before .before .before .before .args .state .fence) (c .before .before .before .before .args .state .comment) (c .before .before .before .before .args .line .now)
     ≡ Heading (c .kind .given .0 .0) (c .kind .given .0 .1 .0) (c .kind .given .0 .1 .1 .0)
 told c = sym (c .before .before .step .ensures .0) ∙ c .kind .given .1
 

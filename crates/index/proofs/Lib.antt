@@ -1,0 +1,4 @@
+pub mod IndexLaws
+pub mod RowsLaws
+pub mod ReadLaws
+pub mod RecordLaws

@@ -1,0 +1,3 @@
+pub mod SkipLaws
+pub mod ScanLaws
+pub mod RegionLaws
