@@ -14,7 +14,7 @@ extern "C" {
  *   accepted    0, length, files taken in, 0, 0, 0
  *   no region   1, 0, 0, 0, 0, 0
  *   refused     2, number, file, line, second file, second line
- * Numbers, files and lines are those of document 01. A text is any bytes; its
+ * Numbers, files and lines are those of document 01. A text is any bytes. A
  * pointer may be null where its length is 0. The buffers of one call may not
  * overlap, and the answer has room for six numbers.
  */

@@ -1,5 +1,7 @@
 //! The six numbers that a call answers with.
 
+use std::sync::Once;
+
 /// Accepted: `0, length, files taken in, 0, 0, 0`.
 /// Refused: `2, number, file, line, second file, second line`.
 pub type Answer = [u64; 6];
@@ -12,4 +14,28 @@ pub fn accepted(length: usize) -> Answer {
 /// A refusal in the text handed in, which is file 0, with no second place.
 pub fn refused(number: u64, line: usize) -> Answer {
     [2, number, 0, line as u64, 0, 0]
+}
+
+/// No answer holds this number, so one that a call leaves unwritten is seen.
+const UNWRITTEN: u64 = u64::MAX;
+
+/// Stands before and behind the six numbers.
+const GUARD: u64 = 0xA5A5_A5A5_A5A5_A5A5;
+const GUARDS: usize = 4;
+
+/// What a call writes as its answer; the pointer has room for six numbers. For a
+/// call that writes before or behind them it is six guards, which no call
+/// answers, so every comparison fails.
+pub fn answered(call: impl FnOnce(*mut u64)) -> Answer {
+    let mut lent = [GUARD; GUARDS + 6 + GUARDS];
+    lent[GUARDS..][..6].fill(UNWRITTEN);
+    call(lent.as_mut_ptr().wrapping_add(GUARDS));
+    let answer = std::array::from_fn(|number| lent[GUARDS + number]);
+    let around = lent[..GUARDS].iter().chain(&lent[GUARDS + 6..]);
+    if around.copied().all(|word| word == GUARD) {
+        return answer;
+    }
+    static SAID: Once = Once::new();
+    SAID.call_once(|| eprintln!("a call wrote before or behind its six numbers"));
+    [GUARD; 6]
 }

@@ -1,5 +1,5 @@
 //! Compares the library's scan with the Rust's on generated texts: the six
-//! numbers, and every byte of the output and around it.
+//! numbers, and every byte of the output and around both.
 
 mod lent;
 mod library;
@@ -31,12 +31,39 @@ fn output_sizes(full: usize, random: &mut Random) -> Vec<usize> {
     sizes
 }
 
+/// A text and an output that are there or are null, the text empty or not. The
+/// answer is the number of cases, or what is wrong.
+fn compare_null() -> Result<u64, String> {
+    const PATTERN: u8 = 0xA5;
+    let texts: [Option<&[u8]>; 5] =
+        [None, Some(b""), Some(b"a"), Some(b"<!--[/]-->"), Some(b"\n\x80")];
+    let mut cases = 0;
+    for text in texts {
+        let expected = Expected::of(text.unwrap_or_default());
+        for size in [None, Some(0), Some(64)] {
+            let mut out = vec![PATTERN; size.unwrap_or(0)];
+            let answer = library::scan_or_null(text, size.map(|_| &mut out[..]));
+            let written = expected.written(out.len());
+            let same = answer == expected.answer(out.len())
+                && out.starts_with(written)
+                && out[written.len()..].iter().all(|&byte| byte == PATTERN);
+            if !same {
+                let expected = expected.answer(out.len());
+                let case = format!("text {text:?}, output of {size:?} bytes, None for null");
+                return Err(format!("{case}\nexpected {expected:?}\nlibrary  {answer:?}"));
+            }
+            cases += 1;
+        }
+    }
+    Ok(cases)
+}
+
 fn run(options: &Options) -> Result<u64, String> {
     let more = options.more();
     let mut texts = Texts::new(options.seed);
     let mut random = Random::new(options.seed);
     let mut lent = Lent::default();
-    let mut cases = 0;
+    let mut cases = compare_null()?;
     while more(cases) {
         let text = texts.next();
         match compare(&text, &mut random, &mut lent) {

@@ -1,5 +1,5 @@
-//! Compares the leaf functions with the Rust on generated texts, titles, paths
-//! and links, and on generated file sets with the refusals of document 01.
+//! Compares the leaf functions with the Rust on generated texts, titles, paths,
+//! links and regions, and on generated file sets with the refusals of document 01.
 
 mod leaf;
 
@@ -8,10 +8,13 @@ use jilgyemot_host::headed::{Headed, Titles};
 use jilgyemot_host::indexed::Inputs;
 use jilgyemot_host::linked::{Lines, Paths};
 use jilgyemot_host::refusals::Input;
+use jilgyemot_host::regions::Marked;
 use jilgyemot_host::shrink::shrink;
+use jilgyemot_host::spaced::Spaced;
 use leaf::checks::Checks;
 use leaf::links::{self, Links};
-use leaf::{Outcome, levels, members, paths, titles, walk};
+use leaf::regions::Regions;
+use leaf::{Outcome, levels, lines, members, paths, titles, walk};
 
 fn ascii(text: &[u8]) -> &str {
     str::from_utf8(text).expect("generated texts are ASCII")
@@ -51,10 +54,13 @@ struct Run {
     links: Links,
     inputs: Inputs,
     checks: Checks,
+    marked: Marked,
+    regions: Regions,
+    spaced: Spaced,
 }
 
 /// How many parts a run has.
-const PARTS: usize = 5;
+const PARTS: usize = 7;
 
 impl Run {
     fn new(seed: u64) -> Self {
@@ -67,6 +73,9 @@ impl Run {
             links: Links::default(),
             inputs: Inputs::new(seed),
             checks: Checks::default(),
+            marked: Marked::new(seed),
+            regions: Regions::default(),
+            spaced: Spaced::new(seed),
         }
     }
 
@@ -77,7 +86,9 @@ impl Run {
             1 => self.next_title(),
             2 => self.next_path(),
             3 => self.next_line(),
-            _ => self.next_input(),
+            4 => self.next_input(),
+            5 => self.next_marked(),
+            _ => self.next_spaced(),
         }
     }
 
@@ -120,6 +131,16 @@ impl Run {
         })
     }
 
+    fn next_marked(&mut self) -> Outcome {
+        let (text, numbers) = self.marked.next();
+        checked(["text"], [text], |[text]| self.regions.check(ascii(text), numbers))
+    }
+
+    fn next_spaced(&mut self) -> Outcome {
+        let (text, at, level) = self.spaced.next();
+        checked(["text"], [text], |[text]| lines::check(ascii(text), at, level))
+    }
+
     fn print_covered(&self) {
         println!("all texts of up to {} parts", self.headed.parts.complete());
         println!("all texts of up to {} whole lines", self.headed.lines.complete());
@@ -130,7 +151,11 @@ impl Run {
         println!("all indexes of up to {} parts", self.inputs.parts.complete());
         println!("all indexes of up to {} whole lines", self.inputs.lines.complete());
         println!("all lists of up to {} whole lines", self.inputs.lists.complete());
+        println!("all marked texts of up to {} parts", self.marked.texts.parts.complete());
+        println!("all marked texts of up to {} whole lines", self.marked.texts.lines.complete());
+        println!("all spaced texts of up to {} parts", self.spaced.parts.complete());
         println!("{}", self.links);
+        println!("{}", self.regions);
         println!("{}", self.checks);
     }
 }
@@ -142,6 +167,7 @@ fn run(options: &Options) -> Outcome {
     let mut cases = [0; PARTS];
     cases[0] += levels::check_all()?;
     cases[3] += links::check_all()?;
+    cases[6] += lines::check_all()?;
     while more(cases.iter().sum()) {
         let least = (0..PARTS).min_by_key(|&part| cases[part]).unwrap_or(0);
         cases[least] += run.next(least)?;

@@ -76,9 +76,9 @@ fn random_text(random: &mut Random) -> Vec<u8> {
 const TITLE_PARTS: [&str; 15] =
     ["[", "]", "(", ")", "`", "*", "_", "-", " ", "a", "B", "7", ".", "\t", "\r"];
 
-const NEAR_TITLE_PARTS: [&str; 17] = [
+const NEAR_TITLE_PARTS: [&str; 19] = [
     "[a](b)", "[a] (b)", "[a](", "![a](b)", "[[a]](b)", "](", "`a_b`", "**a**", "__", "\x0b",
-    "\x0c", "@", "{", "/", ":", "Z", "\x7f",
+    "\x0c", "@", "{", "/", ":", "Z", "\x7f", "contents", "Table of Contents",
 ];
 
 /// Heading texts, the kinds by turns.

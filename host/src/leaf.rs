@@ -3,9 +3,11 @@
 pub mod checks;
 pub mod levels;
 pub mod library;
+pub mod lines;
 pub mod links;
 pub mod members;
 pub mod paths;
+pub mod regions;
 pub mod titles;
 pub mod walk;
 
@@ -33,4 +35,12 @@ pub fn same_bytes(what: &str, expected: &[u8], leaf: &[u8]) -> Outcome {
 /// An answer that is one number.
 pub fn one(number: u64) -> library::Answer {
     [number, 0, 0, 0, 0, 0]
+}
+
+/// How many bytes stand around a lent output.
+pub const AROUND: usize = 8;
+
+/// An output of some size with `AROUND` bytes on both sides, all of one pattern.
+pub fn lent(size: usize) -> Vec<u8> {
+    vec![0xA5; AROUND + size + AROUND]
 }

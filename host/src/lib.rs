@@ -14,4 +14,6 @@ pub mod oracle;
 pub mod outline;
 pub mod random;
 pub mod refusals;
+pub mod regions;
 pub mod shrink;
+pub mod spaced;

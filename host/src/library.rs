@@ -1,6 +1,8 @@
 //! The library's C interface, as safe functions.
 
-use jilgyemot_host::answer::Answer;
+use std::ptr::{null, null_mut};
+
+use jilgyemot_host::answer::{Answer, answered};
 
 #[link(name = "jilgyemot", kind = "static")]
 unsafe extern "C" {
@@ -13,15 +15,15 @@ unsafe extern "C" {
     );
 }
 
-/// No answer holds this number, so one that a call leaves unwritten is seen.
-const UNWRITTEN: u64 = u64::MAX;
-
 pub fn scan(text: &[u8], out: &mut [u8]) -> Answer {
-    let mut answer = [UNWRITTEN; 6];
+    scan_or_null(Some(text), Some(out))
+}
+
+/// A text or an output that is not there is a null pointer of length 0.
+pub fn scan_or_null(text: Option<&[u8]>, out: Option<&mut [u8]>) -> Answer {
+    let (text, text_len) = text.map_or((null(), 0), |text| (text.as_ptr(), text.len()));
+    let (out, out_len) = out.map_or((null_mut(), 0), |out| (out.as_mut_ptr(), out.len()));
     // SAFETY: each pointer is valid for the length passed with it, the answer
     // has its six numbers, and the three do not overlap.
-    unsafe {
-        jilgyemot_scan(text.as_ptr(), text.len(), out.as_mut_ptr(), out.len(), answer.as_mut_ptr());
-    }
-    answer
+    answered(|answer| unsafe { jilgyemot_scan(text, text_len, out, out_len, answer) })
 }

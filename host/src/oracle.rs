@@ -73,7 +73,7 @@ fn listing(text: &str, scan: &Scan) -> String {
     out
 }
 
-fn line_starts(text: &str) -> Vec<usize> {
+pub fn line_starts(text: &str) -> Vec<usize> {
     let feeds = text.match_indices('\n').map(|(at, _)| at + 1);
     std::iter::once(0).chain(feeds).collect()
 }
@@ -99,6 +99,13 @@ fn list_spans(text: &str, lines: &[usize], spans: &[Span], out: &mut String) {
 }
 
 fn list_region(text: &str, lines: &[usize], region: &Fragment, out: &mut String) {
+    let (path, path_end) = path_place(text, lines, region);
+    let peer = usize::from(region.peer);
+    row(out, "region", &[region.open + 1, region.close + 1, path, path_end, peer]);
+}
+
+/// Where a region's path starts and ends; `lines` are the line starts.
+pub fn path_place(text: &str, lines: &[usize], region: &Fragment) -> (usize, usize) {
     let line = line_from(text, lines[region.open]);
     let indent = line.len() - line.trim_start().len();
     let spec = past(text, lines[region.open] + indent, OPEN);
@@ -108,8 +115,7 @@ fn list_region(text: &str, lines: &[usize], region: &Fragment, out: &mut String)
     let end = past(text, spec_end, SPEC_END);
     assert_eq!(line_from(text, end).trim(), "", "behind the region's opener");
     assert_eq!(line_from(text, lines[region.close]).trim(), CLOSE);
-    let peer = usize::from(region.peer);
-    row(out, "region", &[region.open + 1, region.close + 1, path, path_end, peer]);
+    (path, path_end)
 }
 
 /// The place behind `part`, which has to stand at `at`.

@@ -11,6 +11,7 @@ use jilgyemot_host::notes::{marker_in_each_line, notes};
 use jilgyemot_host::oracle::Expected;
 use jilgyemot_host::outline::outline;
 use jilgyemot_host::random::Random;
+use jilgyemot_host::regions::regions;
 
 const USAGE: &str = "usage: record FOLDER --examples FILE";
 
@@ -62,31 +63,6 @@ const CONTENTS: &str = "# Contents\n\
 
 /// `replay` writes an anchor in blocks of 64 bytes.
 const ANCHOR_LENGTHS: [usize; 5] = [63, 64, 65, 128, 200];
-
-/// What opens a region; the last four are problem 3.
-const OPENERS: [&str; 11] = [
-    "<!--[fragment:a]-->",
-    "<!--[fragment:docs/steps.md]-->",
-    " <!--[fragment:a b]--> ",
-    "<!--[fragment:peer]-->",
-    "<!--[fragment:a:peer]-->",
-    "\t<!--[fragment:docs/steps.md:peer]-->\x0b",
-    "<!--[fragment:<!--[:peer]-->",
-    "<!--[fragment::peer]-->",
-    "<!--[fragment:a:peer:peer]-->",
-    "<!--[fragment:a]--> ]-->",
-    "- <!--[fragment:a]-->",
-];
-
-/// Lines in and between regions, with what does not open or close one.
-const BODIES: [&str; 12] = [
-    "text", "", "# Heading", "Limit <!--[const:MAX]-->6 m<!--[/]-->.", "<!--[k]--><!--[/]-->",
-    "<!--[k]-->v", "text <!--[/]-->", "<!--[/]--> <!--[/]-->", "```\n<!--[/]-->\n```",
-    "~~~\n<!--[fragment:a]-->\n~~~", "<!--[fragment:b]-->", " <!--[fragment:b:peer]-->",
-];
-
-const CLOSERS: [&str; 5] =
-    ["<!--[/]-->", "<!--[/]-->", " \t<!--[/]-->", "<!--[/]-->\x0c ", "\r<!--[/]-->\x0b"];
 
 /// What `replay` reads and what it has to print.
 #[derive(Default)]
@@ -199,28 +175,6 @@ fn unescaped(text: &str) -> Option<Vec<u8>> {
 
 fn hex_digit(byte: u8) -> Option<u8> {
     Some(char::from(byte).to_digit(16)? as u8)
-}
-
-/// A few regions and what stands between them; now and then one is not closed.
-fn regions(random: &mut Random) -> Vec<u8> {
-    let mut lines = Vec::new();
-    for _ in 0..random.within(1, 4) {
-        bodies(1, random, &mut lines);
-        lines.push(random.pick(&OPENERS));
-        bodies(3, random, &mut lines);
-        if !random.one_in(6) {
-            lines.push(random.pick(&CLOSERS));
-        }
-    }
-    let mut text = lines.join(random.pick(&["\n", "\n", "\r\n"]));
-    text.push_str(random.pick(&["", "\n", "\r\n", "\r"]));
-    text.into_bytes()
-}
-
-fn bodies(most: usize, random: &mut Random, lines: &mut Vec<&str>) {
-    for _ in 0..random.within(0, most) {
-        lines.push(random.pick(&BODIES));
-    }
 }
 
 /// Many rows, of each kind by itself and of all together: with exactly enough

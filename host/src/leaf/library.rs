@@ -1,8 +1,9 @@
 //! The C interface of the leaf functions, as safe functions.
 
+use jilgyemot_host::answer::answered;
 use jilgyemot_host::refusals::Input;
 
-pub type Answer = [u64; 6];
+pub use jilgyemot_host::answer::Answer;
 
 #[link(name = "leaves", kind = "static")]
 unsafe extern "C" {
@@ -50,6 +51,19 @@ unsafe extern "C" {
         answer: *mut u64,
     );
     fn leaf_url(url: *const u8, url_len: usize, answer: *mut u64);
+    fn leaf_blank(text: *const u8, text_len: usize, answer: *mut u64);
+    fn leaf_put_heading(
+        at: u64,
+        level: u64,
+        text: *const u8,
+        text_len: usize,
+        out: *mut u8,
+        out_len: usize,
+        answer: *mut u64,
+    );
+    fn leaf_clear(out: *mut u8, out_len: usize, answer: *mut u64);
+    fn leaf_region(text: *const u8, text_len: usize, at: u64, line: u64, answer: *mut u64);
+    fn leaf_region_lines(text: *const u8, text_len: usize, at: u64, line: u64, answer: *mut u64);
     fn leaf_check_fill(
         index: *const u8,
         index_len: usize,
@@ -78,16 +92,6 @@ unsafe extern "C" {
         work: u64,
         answer: *mut u64,
     );
-}
-
-/// No answer holds this number, so one that a call leaves unwritten is seen.
-const UNWRITTEN: Answer = [u64::MAX; 6];
-
-/// What a call writes as its answer.
-fn answered(call: impl FnOnce(*mut u64)) -> Answer {
-    let mut answer = UNWRITTEN;
-    call(answer.as_mut_ptr());
-    answer
 }
 
 // SAFETY of each call: a pointer is valid for the length passed with it, the
@@ -179,6 +183,28 @@ pub fn self_anchor(target: &[u8], dir: &[u8], host: &[u8]) -> Answer {
 
 pub fn url(url: &[u8]) -> Answer {
     answered(|answer| unsafe { leaf_url(url.as_ptr(), url.len(), answer) })
+}
+
+pub fn blank(text: &[u8]) -> Answer {
+    answered(|answer| unsafe { leaf_blank(text.as_ptr(), text.len(), answer) })
+}
+
+pub fn put_heading(at: u64, level: u64, text: &[u8], out: &mut [u8]) -> Answer {
+    answered(|answer| unsafe {
+        leaf_put_heading(at, level, text.as_ptr(), text.len(), out.as_mut_ptr(), out.len(), answer);
+    })
+}
+
+pub fn clear(out: &mut [u8]) -> Answer {
+    answered(|answer| unsafe { leaf_clear(out.as_mut_ptr(), out.len(), answer) })
+}
+
+pub fn region(text: &[u8], at: u64, line: u64) -> Answer {
+    answered(|answer| unsafe { leaf_region(text.as_ptr(), text.len(), at, line, answer) })
+}
+
+pub fn region_lines(text: &[u8], at: u64, line: u64) -> Answer {
+    answered(|answer| unsafe { leaf_region_lines(text.as_ptr(), text.len(), at, line, answer) })
 }
 
 pub fn check_fill(input: &Input) -> Answer {

@@ -2,7 +2,7 @@
 
 use doc_gen::assembly;
 
-use super::{Outcome, library, one, same, same_bytes};
+use super::{AROUND, Outcome, lent, library, one, same, same_bytes};
 
 pub fn check(path: &str, dir: &str) -> Outcome {
     let resolved = assembly::resolve(path, dir);
@@ -26,9 +26,7 @@ fn check_parent(name: &str) -> Outcome {
 
 /// An output of some size, with bytes around it.
 fn check_written(path: &str, dir: &str, resolved: &str, size: usize) -> Outcome {
-    const PATTERN: u8 = 0xA5;
-    const AROUND: usize = 8;
-    let mut lent = vec![PATTERN; AROUND + size + AROUND];
+    let mut lent = lent(size);
     let mut expected = lent.clone();
     if resolved.len() <= size {
         expected[AROUND..][..resolved.len()].copy_from_slice(resolved.as_bytes());
