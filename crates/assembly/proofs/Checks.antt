@@ -19,7 +19,7 @@ use Rattle.link.specs.Links.{relink, relinkOpen, relinkTarget}
 use Rattle.path.specs.Path.{step, walked, resolve}
 use Rattle.link.specs.Target.{targetOf, rewriteTarget, anchorSelf}
 use Rattle.walk.specs.Steps.{go, judge}
-use Rattle.fragment.specs.Shift.{toldFrom, pastFrom, dropEnd}
+use Rattle.shift.specs.Shift.{toldFrom, pastFrom, upTo}
 use Rattle.assembly.specs.Assemble.{prepareAll, emitAll, assemble}
 use Rattle.assembly.specs.Member.{withoutContents, preparedLines, titleOf, prepare, lineOf, earlier, sharedIn, sharedFrom, movable, titleNamed, emit}
 
@@ -35,5 +35,5 @@ Checks =
     × (assemblyOf (fileOf 1 (bytes "docs/a.md") (bytes "# T\n[c](../c.md#k)\n") ∷ []) ≡ given (bytes "# T\n[c](https://h/blob/main/c.md#k)\n") 0))
 
 pub checks : Checks
-unfolding first afterLast startsWith endsWith equals find isSpace lead kept trimStart trimEnd trim isBlank split join shows markupAfter plainFrom anchorOf slug plainEndFrom lower isLowered isContents drops shallowestOf hashes textStart textEnd headingOf opener closes opensComment writtenKind commentAfter outsideKind outsideAfter stepKind stepAfter kindsFrom relink relinkOpen relinkTarget step walked resolve targetOf rewriteTarget anchorSelf go judge toldFrom pastFrom dropEnd prepareAll emitAll assemble withoutContents preparedLines titleOf prepare lineOf earlier sharedIn sharedFrom movable titleNamed emit
+unfolding first afterLast startsWith endsWith equals find isSpace lead kept trimStart trimEnd trim isBlank split join shows markupAfter plainFrom anchorOf slug plainEndFrom lower isLowered isContents drops shallowestOf hashes textStart textEnd headingOf opener closes opensComment writtenKind commentAfter outsideKind outsideAfter stepKind stepAfter kindsFrom relink relinkOpen relinkTarget step walked resolve targetOf rewriteTarget anchorSelf go judge toldFrom pastFrom upTo prepareAll emitAll assemble withoutContents preparedLines titleOf prepare lineOf earlier sharedIn sharedFrom movable titleNamed emit
 checks = (refl, (refl, refl))

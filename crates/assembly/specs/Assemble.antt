@@ -4,29 +4,19 @@ use mathlib.Core.List.{List, [], _∷_, _++_}
 use lib.ListN.{take}
 use Rattle.answer.specs.Answer.{place}
 use Rattle.text.specs.Lines.{LF}
-use Rattle.text.specs.Pattern.{bytes}
 use Rattle.text.specs.Split.{join}
-use Rattle.fragment.specs.Fill.{Outcome, text, refusal}
+use Rattle.walk.specs.Outcome.{Outcome, text, refusal}
 use Rattle.assembly.specs.declared.Assembled.{Assembled}
 use Rattle.assembly.specs.declared.Assembled.the-variants.{Text, Refused}
-use Rattle.walk.specs.Parts.{Part, unless}
+use Rattle.walk.specs.Parts.{Part}
 use Rattle.walk.specs.Steps.{Steps, done, sized, go, part}
 use Rattle.index.specs.Index.{File}
-use Rattle.assembly.specs.Member.{Prepared, prepare, sharedFrom, titleNamed, emit}
+use Rattle.assembly.specs.Member.{Prepared, prepare, compare, titleNamed, emit, joinLines}
 
 -- "All members are prepared (18)"
 unfoldable pub prepareAll : List File → Steps (List Prepared)
 prepareAll [] = done []
 prepareAll (h ∷ hs) = go (part (prepare h)) (λ m. go (prepareAll hs) (λ ms. done (m ∷ ms)))
-
--- "then compared (19 ..)"
-abbrev pub compare : List Prepared → Part (List Prepared)
-compare ms = unless (sharedFrom [] ms) ms
-
--- "joined by empty line, `---`, empty line": the lines so far, and those of a member
-abbrev pub joinLines : List (List ℕ) → List (List ℕ) → List (List ℕ)
-joinLines [] es = es
-joinLines (l ∷ ls) es = (l ∷ ls) ++ ([] ∷ bytes "---" ∷ [] ∷ es)
 
 -- "the text so far is the running text here, tested against L after each member and after the last LF"; 17 "stands at the member (for the last LF the last member), line 0"
 unfoldable pub emitAll : (Prepared → Part (List (List ℕ))) → ℕ → List Prepared → List (List ℕ) → Steps (List ℕ)

@@ -7,8 +7,7 @@ use Rattle.text.specs.Lines.{LF}
 use Rattle.text.specs.Split.{join}
 use Rattle.index.specs.Index.{File}
 use Rattle.walk.specs.Parts.{Part, partMade, partFaults, andThen, ifMade}
-use Rattle.assembly.specs.Member.{Prepared, prepare, sharedFrom, titleNamed, emit}
-use Rattle.assembly.specs.Assemble.{compare, joinLines}
+use Rattle.assembly.specs.Member.{Prepared, prepare, sharedFrom, compare, titleNamed, emit, joinLines}
 
 -- the text: every member prepared, all compared, every one emitted, and joined
 unfoldable pub preparedAll : List File → Option (List Prepared)

@@ -1,3 +1,3 @@
 pub mod Member
-pub mod Assemble
 pub mod Assembled
+pub mod Assemble

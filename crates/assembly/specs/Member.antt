@@ -10,7 +10,7 @@ use Rattle.answer.specs.declared.Refusal.{Refusal}
 use Rattle.answer.specs.declared.Refusal.the-variants.{HeadingLevel, NoTitle, SharedAnchor}
 use Rattle.text.specs.Bytes.{part}
 use Rattle.text.specs.Lines.{pieces}
-use Rattle.text.specs.Pattern.{equals}
+use Rattle.text.specs.Pattern.{bytes, equals}
 use Rattle.anchor.specs.Anchor.{slug}
 use Rattle.heading.specs.Contents.{drops}
 use Rattle.heading.specs.Walk.{walkBegin}
@@ -21,7 +21,7 @@ use Rattle.path.specs.Path.{parentDir}
 use Rattle.link.specs.Target.{rewriteTarget}
 use Rattle.walk.specs.Parts.{Part, good, flawed, unless}
 use Rattle.index.specs.Index.{File}
-use Rattle.fragment.specs.Shift.{Told, toldFrom, kindsOf, shiftFor, movedLine, pastFrom, dropEnd}
+use Rattle.shift.specs.Shift.{Told, toldFrom, kindsOf, shiftFor, movedLine, pastFrom, dropEnd}
 
 -- "Drop hand-written contents ..": the lines kept, where the line before was dropped or not
 unfoldable pub withoutContents : Bool → List (List ℕ) → List (List ℕ)
@@ -92,6 +92,10 @@ unfoldable pub sharedFrom : List Prepared → List Prepared → List Refusal
 sharedFrom qs [] = []
 sharedFrom qs (m ∷ ms) = sharedIn qs m 1 (m .lines) ++ sharedFrom (qs ++ (m ∷ [])) ms
 
+-- "then compared (19 ..)"
+abbrev pub compare : List Prepared → Part (List Prepared)
+compare ms = unless (sharedFrom [] ms) ms
+
 -- ---- emitted
 
 -- "title excepted": the lines, the first H1 being no heading to be moved
@@ -120,3 +124,8 @@ unfoldable pub emit : (List ℕ → Option (List ℕ)) → List ℕ → Prepared
 emit titles url m =
     unless (pastFrom (λ n. HeadingLevel (place (m .file) n)) 1 (shiftFor 2 (kindsOf (movable (m .lines)))) (kindsOf (movable (m .lines))))
     (map (λ t. rewriteLine (rewriteTarget titles url (parentDir (m .name))) (t .kind) (movedLine (shiftFor 2 (kindsOf (movable (m .lines)))) t)) (movable (m .lines)))
+
+-- "joined by empty line, `---`, empty line": the lines so far, and those of a member
+abbrev pub joinLines : List (List ℕ) → List (List ℕ) → List (List ℕ)
+joinLines [] es = es
+joinLines (l ∷ ls) es = (l ∷ ls) ++ ([] ∷ bytes "---" ∷ [] ∷ es)

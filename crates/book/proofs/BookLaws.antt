@@ -12,13 +12,15 @@ use Rattle.walk.specs.Steps.{done, go, ends, takes, sizes}
 use Rattle.walk.proofs.Sums.{total, total-append, zero-total, total-one}
 use Rattle.walk.proofs.PartLaws.{made-by, Agrees, agrees-cons}
 use Rattle.walk.proofs.StepsLaws.{ends-go, weigh, weigh-go, weigh-go-le, weigh-takes, weigh-sizes, flaw, flaw-go}
-use Rattle.fragment.specs.Chains.{Chain, start, starts, extended, longer, made, running}
-use Rattle.fragment.specs.Fill.{walk}
-use Rattle.fragment.proofs.ChainLaws.{walk-made, flaws, made-flaws, reached, faultsOf, walk-flaw, sums, walk-weigh, walk-weigh-le}
+use Rattle.chains.specs.Chains.{Chain, start, starts, made, running}
+use Rattle.chains.proofs.ChainLaws.{extended, longer}
+use Rattle.chains.specs.Fill.{walk}
+use Rattle.chains.proofs.ChainLaws.{walk-made, flaws, made-flaws, reached, faultsOf, walk-flaw, sums, walk-weigh, walk-weigh-le}
 use Rattle.assembly.specs.Assemble.{assemble}
 use Rattle.assembly.specs.Assembled.{assembledText}
 use Rattle.assembly.proofs.AssembleLaws.{assemble-made, assemble-flaws, assemble-flaw, assemble-weigh, assemble-weigh-le}
-use Rattle.book.specs.Book.{walkAll, membersOf, withTexts, book, madeAll, bookText, madeMembers, bookFaults, bookRunning}
+use Rattle.book.specs.BookWalk.{walkAll, book}
+use Rattle.book.specs.Book.{membersOf, withTexts, madeAll, bookText, madeMembers, bookFaults, bookRunning}
 
 -- ---- what it makes
 

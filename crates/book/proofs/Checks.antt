@@ -3,7 +3,7 @@ use Rattle.listing.proofs.Checks as marker
 use Rattle.heading.proofs.Checks as heading
 use Rattle.anchor.proofs.Checks as anchor
 use Rattle.link.proofs.Checks as link
-use Rattle.fragment.proofs.Checks as fragment
+use Rattle.chains.proofs.Checks as fragment
 use Rattle.assembly.proofs.Checks as assembly
 
 -- K1 and K6; K2; K3 and K4; K5 and K12's target; K7 to K9; K10 to K12

@@ -8,11 +8,11 @@ use Rattle.fileset.specs.Check.{bookChecked}
 use Rattle.fileset.specs.declared.check.Checked.the-variants.{Passed}
 use Rattle.fileset.proofs.PassedLaws.{book-few}
 use Rattle.walk.specs.Steps.{Judged, given, refused, judge, judgedNumber}
-use Rattle.fragment.proofs.Paths.{counts-chains}
-use Rattle.book.specs.Book.{book}
-use Rattle.fragment.specs.Fill.{text, refusal, outcome}
+use Rattle.chains.proofs.Paths.{counts-chains}
+use Rattle.book.specs.BookWalk.{book}
+use Rattle.walk.specs.Outcome.{text, refusal, outcome}
 use Rattle.book.specs.Calls.{bookOutcome}
-use Rattle.book.specs.Demand.{S, M, outcomeNumber, Demand3}
+use Rattle.book.specs.Demand.{fileSet, listed, outcomeNumber, Demand3}
 use Rattle.book.proofs.DemandLaws.{given-exactly, given-text, given-count, larger-limits, refused-because}
 
 outcome-text : (j : Judged (List ℕ)) (t : List ℕ) (n : ℕ) → outcome j ≡ text t n → j ≡ given t n
@@ -30,7 +30,7 @@ outcome-number (refused x) = refl
 module _ (index contents list url : List ℕ) where
   -- the walk of the book, judged
   abbrev judged : ℕ → ℕ → Judged (List ℕ)
-  judged L B = judge B L 0 (book (S index contents) (M index list) url)
+  judged L B = judge B L 0 (book (fileSet index contents) (listed index list) url)
 
   walked : (L B out work : ℕ) → bookChecked index contents list url L out work ≡ Passed → bookOutcome index contents list url L B out work ≡ outcome (judged L B)
   unfolding bookOutcome
@@ -40,20 +40,20 @@ module _ (index contents list url : List ℕ) where
   demand-3 = record {
     exactly-when = λ L B out work e.
         let w = walked L B out work e in
-        let x = given-exactly B L (S index contents) (book-few index contents list url L out work e) (M index list) url in
+        let x = given-exactly B L (fileSet index contents) (book-few index contents list url L out work e) (listed index list) url in
         (λ g. x .0 (g .0, g .1, outcome-text (judged L B) (g .0) (g .1) (sym w ∙ g .2)), λ s. let r = x .1 s in (r .0, r .1, w ∙ ap outcome (r .2)));
     as-defined = λ L B out work e t n g.
         let few = book-few index contents list url L out work e in
         let j = outcome-text (judged L B) t n (sym (walked L B out work e) ∙ g) in (
-          given-text B L (S index contents) few (M index list) url t n j,
-          rw (given-count B L (S index contents) few (M index list) url t n j) (counts-chains (S index contents) few (M index list)),
+          given-text B L (fileSet index contents) few (listed index list) url t n j,
+          rw (given-count B L (fileSet index contents) few (listed index list) url t n j) (counts-chains (fileSet index contents) few (listed index list)),
         );
     alike = λ L B out work L′ B′ out′ work′ e e′ hL hB h k.
         let w = walked L B out work e in
-        w ∙ ap outcome (larger-limits B L B′ L′ (S index contents) (M index list) url hB hL
+        w ∙ ap outcome (larger-limits B L B′ L′ (fileSet index contents) (listed index list) url hB hL
         (λ q. h (ap outcomeNumber w ∙ outcome-number (judged L B) ∙ q)) (λ q. k (ap outcomeNumber w ∙ outcome-number (judged L B) ∙ q)))
         ∙ sym (walked L′ B′ out′ work′ e′);
     with-reason = λ L B out work e x g.
-        refused-because (S index contents) (book-few index contents list url L out work e) (M index list) url B L x
+        refused-because (fileSet index contents) (book-few index contents list url L out work e) (listed index list) url B L x
         (outcome-refused (judged L B) x (sym (walked L B out work e) ∙ g));
   }

@@ -7,17 +7,23 @@ use mathlib.Core.List.{List}
 use mathlib.Core.Logic.{inl, inr, _↔_}
 use mathlib.Core.Option.{Option, none, some}
 use lib.ListN.{length}
+use Rattle.answer.specs.Answer.{number}
 use Rattle.answer.specs.declared.Refusal.{Refusal}
 use Rattle.index.specs.Index.{File}
 use Rattle.walk.specs.Steps.{takes, given, refused, judge, judgedNumber}
 use Rattle.walk.proofs.Sums.{total, total-zero, zero-total, total-some, length-zero}
 use Rattle.walk.proofs.PartLaws.{Agrees}
 use Rattle.walk.proofs.StepsLaws.{over, judge-given, given-judge, judge-more, Grounds, refused-judge, flaw-fails}
-use Rattle.fragment.specs.Chains.{starts, extended, same, faults, running}
-use Rattle.fragment.proofs.ChainLaws.{flaws, faultsOf, reached}
-use Rattle.fragment.proofs.Paths.{same-self, same-equal, pickN, everywhere, nowhere, somewhere, counts-chains}
-use Rattle.fragment.proofs.CountLaws.{count-unique}
-use Rattle.book.specs.Book.{book, bookText, bookFaults, bookRunning, Sound}
+use Rattle.chains.specs.Chains.{starts, same, faults, running}
+use Rattle.chains.proofs.ChainLaws.{extended}
+use Rattle.chains.proofs.ChainLaws.{flaws, faultsOf, reached}
+use Rattle.chains.proofs.Paths.{same-self, same-equal, pickN, everywhere, nowhere, somewhere, counts-chains}
+use Rattle.walk.proofs.FaultLaws.{faultNumber, isFault, fault-not, all-member}
+use Rattle.chains.proofs.CountLaws.{count-unique}
+use Rattle.chains.proofs.FaultLaws.{chain-at-fault}
+use Rattle.assembly.proofs.FaultLaws.{assembly-fault}
+use Rattle.book.specs.BookWalk.{book}
+use Rattle.book.specs.Book.{bookText, madeMembers, bookFaults, bookRunning, Sound}
 use Rattle.book.specs.Demand.{numbersOf, Faulty, Overlong, Reason}
 use Rattle.book.proofs.BookLaws.{book-made, book-flaws, book-flaw, book-takes, book-takes-le, book-sizes, book-sizes-le}
 
@@ -91,6 +97,10 @@ module _ (x : Refusal) where
       at-test true q k = same-equal (numbersOf x) (numbersOf y) q
       at-test false q k = absurd (omega arith)
 
+  -- and the number of a fault, where that is one
+  like-fault : (y : Refusal) → numbersOf x ≡ numbersOf y → isFault y ≡ true → isFault x ≡ true
+  like-fault y e h = let q : number x ≡ number y = cc in ap faultNumber q ∙ h
+
 module _ (S : List File) (few : length S ≤ 64) (M url : List ℕ) where
   faulty : (x : Refusal) → 0 < total (faultsOf (like x)) (reached (starts S M)) + total (like x) (bookFaults S M url) → Faulty S M url x
   faulty x l = at-sum (total (faultsOf (like x)) (reached (starts S M))) refl l
@@ -116,10 +126,30 @@ module _ (S : List File) (few : length S ≤ 64) (M url : List ℕ) where
           let y = total-some (over L) (bookRunning S M url) (omega arith) in
           inr (y .0, y .1, omega (arith, y .2))
 
+  -- a fault has the number of no limit
+  fault-number : (x : Refusal) → Faulty S M url x → isFault x ≡ true
+  fault-number x (inl f) = like-fault x (f .3) (f .5) (all-member (f .3) (faults (f .1)) (f .4) (chain-at-fault S M (f .0) (f .1) (f .2)))
+  fault-number x (inr f) = like-fault x (f .0) (f .2) (all-member (f .0) (bookFaults S M url) (f .1) (assembly-fault url (madeMembers S M)))
+
+  by-fault : (B L : ℕ) (x : Refusal) → Faulty S M url x → Reason B L S M url x
+  by-fault B L x f = record {
+    overtaken = λ e. absurd (fault-not x 15 refl (fault-number x f) e);
+    overlong = λ e. absurd (fault-not x 17 refl (fault-number x f) e);
+    faulty = λ h k. f;
+  }
+
   pub refused-because : (B L : ℕ) (x : Refusal) → judge B L 0 (book S M url) ≡ refused x → Reason B L S M url x
   refused-because B L x e = on-grounds (refused-judge B L 0 (book S M url) x e)
     where
       on-grounds : Grounds B L 0 (book S M url) x → Reason B L S M url x
-      on-grounds (inl h) = inl (faulty x (omega (arith, flaw-fails (like x) (book S M url) x h, book-flaw (like x) S M url, like-self x)))
-      on-grounds (inr (inl h)) = inr (inl (h .0, (length (extended (starts S M)), counts-chains S few M, omega (arith, h .1, book-takes-le S M url))))
-      on-grounds (inr (inr h)) = inr (inr (h .0, overlong L (omega (arith, h .1, book-sizes-le (over L) S M url))))
+      on-grounds (inl h) = by-fault B L x (faulty x (omega (arith, flaw-fails (like x) (book S M url) x h, book-flaw (like x) S M url, like-self x)))
+      on-grounds (inr (inl h)) = record {
+        overtaken = λ q. (length (extended (starts S M)), counts-chains S few M, omega (arith, h .1, book-takes-le S M url));
+        overlong = λ q. absurd (omega (arith, h .0));
+        faulty = λ p q. absurd (p (h .0));
+      }
+      on-grounds (inr (inr h)) = record {
+        overtaken = λ q. absurd (omega (arith, h .0));
+        overlong = λ q. overlong L (omega (arith, h .1, book-sizes-le (over L) S M url));
+        faulty = λ p q. absurd (q (h .0));
+      }

@@ -29,17 +29,19 @@ use Rattle.index.specs.Records.{pastFrom, twiceFrom, wideFrom}
 use Rattle.index.specs.Index.{isName, fieldOf, lineOf, illFormedFrom, recordsFrom, filesFrom, firstNamed}
 use Rattle.fileset.specs.Members.{absentFrom, membersFrom}
 use Rattle.walk.specs.Steps.{go, ends, fails, takes, sizes, judge}
-use Rattle.fragment.specs.Chains.{next, through, grow, free, longer, longerRest, made, madeRest, faultsRest, runningRest, extended, regionIn, leads, timesIn}
-use Rattle.fragment.specs.Embed.{isMarker, unmarkedFrom, embeddedLines, embed}
-use Rattle.fragment.specs.Fill.{walk, walkRest}
-use Rattle.fragment.specs.Regions.{problemsOf, isWithin, blankedFrom, lastLevel, regionsFrom, scanned}
-use Rattle.fragment.specs.Shift.{toldFrom, pastFrom as pastFrom-of-fragmentShift, dropEnd, dropStart}
+use Rattle.chains.specs.Chains.{next, through, grow, free, made, madeRest, faultsRest, runningRest, regionIn, leads, timesIn}
+use Rattle.chains.proofs.ChainLaws.{longer, longerRest, extended}
+use Rattle.embedding.specs.Embed.{isMarker, unmarkedFrom, embeddedLines, embedTold, embed}
+use Rattle.chains.specs.Fill.{walk, walkRest}
+use Rattle.regions.specs.Regions.{problemsOf, isWithin, blankedFrom, lastLevel, regionsFrom, scanned}
+use Rattle.shift.specs.Shift.{toldFrom, pastFrom as pastFrom-of-shift, upTo, blanks}
 use Rattle.assembly.specs.Assemble.{prepareAll, emitAll, assemble}
 use Rattle.assembly.specs.Assembled.{preparedAll, joinedAll, assembledText, eachFaults, eachMade, present, joins}
 use Rattle.assembly.specs.Member.{withoutContents, preparedLines, titleOf, prepare, lineOf as lineOf-of-assemblyMember, earlier, sharedIn, sharedFrom, movable, titleNamed, emit}
-use Rattle.book.specs.Book.{walkAll, withTexts, book, madeAll, bookText, madeMembers}
+use Rattle.book.specs.BookWalk.{walkAll, book}
+use Rattle.book.specs.Book.{withTexts, madeAll, bookText, madeMembers}
 use Rattle.book.specs.Calls.{fillOutcome, assembleOutcome, bookOutcome}
-use Rattle.fragment.specs.Fill.{Outcome, text, refusal}
+use Rattle.walk.specs.Outcome.{Outcome, text, refusal}
 
 abbrev index : List ℕ
 index = bytes "a.md\t0\t67\nd/b.md\t67\t74\nd/c.md\t141\t5\n"
@@ -51,13 +53,13 @@ abbrev bookOf : ℕ → ℕ → Outcome
 bookOf L B = bookOutcome index contents (bytes "a.md\n") (bytes "https://h/") L B L (6 * L)
 
 pub given : bookOf 100 2 ≡ text (bytes "# A\n\n<!--[fragment:d/b.md]-->\n### B\n[s](#end) [c](https://h/blob/main/c.md)\n### C\n<!--[/]-->\n## End\n") 2
-unfolding wideLine any first count afterLast digits decimal numberFrom breaks linesFrom lineEnd lineNext startsWith endsWith equals find isSpace lead kept trimStart trimEnd trim isBlank split join isFence pathOf namedOf restOf aloneOf fragmentOf textOf specOf markOf firstOf nextMark fragmentKind markedKind kindOf readBy readFrom readLine spanEvents eventsOf after kindAt lastOf scanFrom scan regionsOf answerOf outputOf shows markupAfter plainFrom anchorOf slug plainEndFrom lower isLowered isContents drops shallowestOf hashes textStart textEnd headingOf opener closes opensComment writtenKind commentAfter outsideKind outsideAfter stepKind stepAfter kindsFrom relink relinkOpen relinkTarget step walked resolve targetOf rewriteTarget anchorSelf pastFrom twiceFrom indexChecked wideFrom fillChecked bookChecked isName fieldOf lineOf illFormedFrom recordsFrom filesFrom firstNamed absentFrom membersFrom go ends fails takes sizes judge next through grow free longer longerRest made madeRest faultsRest runningRest extended regionIn leads timesIn isMarker unmarkedFrom embeddedLines embed walk walkRest problemsOf isWithin blankedFrom lastLevel regionsFrom scanned toldFrom pastFrom-of-fragmentShift dropEnd dropStart prepareAll emitAll assemble preparedAll joinedAll assembledText eachFaults eachMade present joins withoutContents preparedLines titleOf prepare lineOf-of-assemblyMember earlier sharedIn sharedFrom movable titleNamed emit walkAll withTexts book madeAll bookText madeMembers fillOutcome assembleOutcome bookOutcome
+unfolding wideLine any first count afterLast digits decimal numberFrom breaks linesFrom lineEnd lineNext startsWith endsWith equals find isSpace lead kept trimStart trimEnd trim isBlank split join isFence pathOf namedOf restOf aloneOf fragmentOf textOf specOf markOf firstOf nextMark fragmentKind markedKind kindOf readBy readFrom readLine spanEvents eventsOf after kindAt lastOf scanFrom scan regionsOf answerOf outputOf shows markupAfter plainFrom anchorOf slug plainEndFrom lower isLowered isContents drops shallowestOf hashes textStart textEnd headingOf opener closes opensComment writtenKind commentAfter outsideKind outsideAfter stepKind stepAfter kindsFrom relink relinkOpen relinkTarget step walked resolve targetOf rewriteTarget anchorSelf pastFrom twiceFrom indexChecked wideFrom fillChecked bookChecked isName fieldOf lineOf illFormedFrom recordsFrom filesFrom firstNamed absentFrom membersFrom go ends fails takes sizes judge next through grow free longer longerRest made madeRest faultsRest runningRest extended regionIn leads timesIn isMarker unmarkedFrom embeddedLines embedTold embed walk walkRest problemsOf isWithin blankedFrom lastLevel regionsFrom scanned toldFrom pastFrom-of-shift upTo blanks prepareAll emitAll assemble preparedAll joinedAll assembledText eachFaults eachMade present joins withoutContents preparedLines titleOf prepare lineOf-of-assemblyMember earlier sharedIn sharedFrom movable titleNamed emit walkAll withTexts book madeAll bookText madeMembers fillOutcome assembleOutcome bookOutcome
 given = refl
 
 pub no-allowance : bookOf 100 1 ≡ refusal (Allowance (place 2 4))
-unfolding wideLine any first count afterLast digits decimal numberFrom breaks linesFrom lineEnd lineNext startsWith endsWith equals find isSpace lead kept trimStart trimEnd trim isBlank split join isFence pathOf namedOf restOf aloneOf fragmentOf textOf specOf markOf firstOf nextMark fragmentKind markedKind kindOf readBy readFrom readLine spanEvents eventsOf after kindAt lastOf scanFrom scan regionsOf answerOf outputOf shows markupAfter plainFrom anchorOf slug plainEndFrom lower isLowered isContents drops shallowestOf hashes textStart textEnd headingOf opener closes opensComment writtenKind commentAfter outsideKind outsideAfter stepKind stepAfter kindsFrom relink relinkOpen relinkTarget step walked resolve targetOf rewriteTarget anchorSelf pastFrom twiceFrom indexChecked wideFrom fillChecked bookChecked isName fieldOf lineOf illFormedFrom recordsFrom filesFrom firstNamed absentFrom membersFrom go ends fails takes sizes judge next through grow free longer longerRest made madeRest faultsRest runningRest extended regionIn leads timesIn isMarker unmarkedFrom embeddedLines embed walk walkRest problemsOf isWithin blankedFrom lastLevel regionsFrom scanned toldFrom pastFrom-of-fragmentShift dropEnd dropStart prepareAll emitAll assemble preparedAll joinedAll assembledText eachFaults eachMade present joins withoutContents preparedLines titleOf prepare lineOf-of-assemblyMember earlier sharedIn sharedFrom movable titleNamed emit walkAll withTexts book madeAll bookText madeMembers fillOutcome assembleOutcome bookOutcome
+unfolding wideLine any first count afterLast digits decimal numberFrom breaks linesFrom lineEnd lineNext startsWith endsWith equals find isSpace lead kept trimStart trimEnd trim isBlank split join isFence pathOf namedOf restOf aloneOf fragmentOf textOf specOf markOf firstOf nextMark fragmentKind markedKind kindOf readBy readFrom readLine spanEvents eventsOf after kindAt lastOf scanFrom scan regionsOf answerOf outputOf shows markupAfter plainFrom anchorOf slug plainEndFrom lower isLowered isContents drops shallowestOf hashes textStart textEnd headingOf opener closes opensComment writtenKind commentAfter outsideKind outsideAfter stepKind stepAfter kindsFrom relink relinkOpen relinkTarget step walked resolve targetOf rewriteTarget anchorSelf pastFrom twiceFrom indexChecked wideFrom fillChecked bookChecked isName fieldOf lineOf illFormedFrom recordsFrom filesFrom firstNamed absentFrom membersFrom go ends fails takes sizes judge next through grow free longer longerRest made madeRest faultsRest runningRest extended regionIn leads timesIn isMarker unmarkedFrom embeddedLines embedTold embed walk walkRest problemsOf isWithin blankedFrom lastLevel regionsFrom scanned toldFrom pastFrom-of-shift upTo blanks prepareAll emitAll assemble preparedAll joinedAll assembledText eachFaults eachMade present joins withoutContents preparedLines titleOf prepare lineOf-of-assemblyMember earlier sharedIn sharedFrom movable titleNamed emit walkAll withTexts book madeAll bookText madeMembers fillOutcome assembleOutcome bookOutcome
 no-allowance = refl
 
 pub limit : bookOf 99 2 ≡ refusal (TextLimit (place 1 0))
-unfolding wideLine any first count afterLast digits decimal numberFrom breaks linesFrom lineEnd lineNext startsWith endsWith equals find isSpace lead kept trimStart trimEnd trim isBlank split join isFence pathOf namedOf restOf aloneOf fragmentOf textOf specOf markOf firstOf nextMark fragmentKind markedKind kindOf readBy readFrom readLine spanEvents eventsOf after kindAt lastOf scanFrom scan regionsOf answerOf outputOf shows markupAfter plainFrom anchorOf slug plainEndFrom lower isLowered isContents drops shallowestOf hashes textStart textEnd headingOf opener closes opensComment writtenKind commentAfter outsideKind outsideAfter stepKind stepAfter kindsFrom relink relinkOpen relinkTarget step walked resolve targetOf rewriteTarget anchorSelf pastFrom twiceFrom indexChecked wideFrom fillChecked bookChecked isName fieldOf lineOf illFormedFrom recordsFrom filesFrom firstNamed absentFrom membersFrom go ends fails takes sizes judge next through grow free longer longerRest made madeRest faultsRest runningRest extended regionIn leads timesIn isMarker unmarkedFrom embeddedLines embed walk walkRest problemsOf isWithin blankedFrom lastLevel regionsFrom scanned toldFrom pastFrom-of-fragmentShift dropEnd dropStart prepareAll emitAll assemble preparedAll joinedAll assembledText eachFaults eachMade present joins withoutContents preparedLines titleOf prepare lineOf-of-assemblyMember earlier sharedIn sharedFrom movable titleNamed emit walkAll withTexts book madeAll bookText madeMembers fillOutcome assembleOutcome bookOutcome
+unfolding wideLine any first count afterLast digits decimal numberFrom breaks linesFrom lineEnd lineNext startsWith endsWith equals find isSpace lead kept trimStart trimEnd trim isBlank split join isFence pathOf namedOf restOf aloneOf fragmentOf textOf specOf markOf firstOf nextMark fragmentKind markedKind kindOf readBy readFrom readLine spanEvents eventsOf after kindAt lastOf scanFrom scan regionsOf answerOf outputOf shows markupAfter plainFrom anchorOf slug plainEndFrom lower isLowered isContents drops shallowestOf hashes textStart textEnd headingOf opener closes opensComment writtenKind commentAfter outsideKind outsideAfter stepKind stepAfter kindsFrom relink relinkOpen relinkTarget step walked resolve targetOf rewriteTarget anchorSelf pastFrom twiceFrom indexChecked wideFrom fillChecked bookChecked isName fieldOf lineOf illFormedFrom recordsFrom filesFrom firstNamed absentFrom membersFrom go ends fails takes sizes judge next through grow free longer longerRest made madeRest faultsRest runningRest extended regionIn leads timesIn isMarker unmarkedFrom embeddedLines embedTold embed walk walkRest problemsOf isWithin blankedFrom lastLevel regionsFrom scanned toldFrom pastFrom-of-shift upTo blanks prepareAll emitAll assemble preparedAll joinedAll assembledText eachFaults eachMade present joins withoutContents preparedLines titleOf prepare lineOf-of-assemblyMember earlier sharedIn sharedFrom movable titleNamed emit walkAll withTexts book madeAll bookText madeMembers fillOutcome assembleOutcome bookOutcome
 limit = refl

@@ -1,4 +1,4 @@
--- Document 01, "Assembly and book": the walk of a book, without its limits; and the book on chains, without the walk.
+-- Document 01, "Records" and "Assembly and book": the book on chains, without the walk.
 use Prim.Native.Nat.{ℕ, _≤_}
 use mathlib.Core.List.{List, [], _∷_, map, List·Memᴰ}
 use mathlib.Core.Option.{Option, some}
@@ -7,20 +7,10 @@ use lib.ListN.{length}
 use Rattle.answer.specs.declared.Refusal.{Refusal}
 use Rattle.index.specs.Index.{File, fileOf}
 use Rattle.walk.specs.Parts.{andThen, ifMade}
-use Rattle.walk.specs.Steps.{Steps, done, go}
-use Rattle.fragment.specs.Chains.{Chain, fileAt, start, starts, chainAt, made, faults, running, CountsChains}
-use Rattle.fragment.specs.Fill.{walk}
-use Rattle.assembly.specs.Assemble.{assemble}
+use Rattle.chains.specs.Chains.{Chain, fileAt, start, starts, chainAt, made, faults, running, CountsChains}
 use Rattle.assembly.specs.Assembled.{assembledText, assemblyFaults, assemblyRunning}
 
 -- S is the file set, and M has the record of each list line, counted from 0
-
--- ---- the walk
-
--- "The book fills each member, B running on through the list, keeps its text on "no region""
-unfoldable pub walkAll : List Chain → Steps (List (List ℕ))
-walkAll [] = done []
-walkAll (c ∷ cs) = go (walk c) (λ t. go (walkAll cs) (λ ts. done (t ∷ ts)))
 
 -- the members, with the texts that were made
 abbrev pub membersOf : List File → List ℕ → List File
@@ -30,12 +20,6 @@ unfoldable pub withTexts : List File → List (List ℕ) → List File
 withTexts [] ts = []
 withTexts (f ∷ fs) [] = []
 withTexts (f ∷ fs) (t ∷ ts) = fileOf (f .number) (f .name) t ∷ withTexts fs ts
-
--- "then assembles"
-unfoldable pub book : List File → List ℕ → List ℕ → Steps (List ℕ)
-book S M url = go (walkAll (starts S M)) (λ ts. assemble url (withTexts (membersOf S M) ts))
-
--- ---- the book on chains
 
 -- the book's text: every member made, and all assembled
 unfoldable pub madeAll : List Chain → Option (List (List ℕ))

@@ -10,10 +10,12 @@ use Rattle.fileset.specs.Check.{fillChecked, bookChecked}
 use Rattle.fileset.specs.declared.check.Checked.{Checked}
 use Rattle.fileset.specs.declared.check.Checked.the-variants.{Passed, Refused}
 use Rattle.walk.specs.Steps.{judge}
-use Rattle.fragment.specs.Chains.{startAt}
-use Rattle.fragment.specs.Fill.{Outcome, text, noRegion, refusal, outcome, filled}
+use Rattle.chains.specs.Chains.{startAt}
+use Rattle.walk.specs.Outcome.{Outcome, text, noRegion, refusal, outcome}
+use Rattle.chains.specs.Fill.{filled}
 use Rattle.assembly.specs.Assemble.{assemble}
-use Rattle.book.specs.Book.{book, membersOf}
+use Rattle.book.specs.Book.{membersOf}
+use Rattle.book.specs.BookWalk.{book}
 
 -- "Order: 1 to 8 ..; then 14 over the list ..; then the walk"
 abbrev pub afterChecks : Checked → Outcome → Outcome

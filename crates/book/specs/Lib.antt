@@ -1,3 +1,5 @@
 pub mod Book
+pub mod BookWalk
 pub mod Calls
 pub mod Demand
+pub mod FillCall

@@ -1,1 +1,2 @@
-// The calls fill, assembly and book, which answer by `answer::Answer`. So far their definitions, in specs/, and the proof of demand 3.
+// The calls fill, assembly and book. Assembly and book are so far definitions, in specs/, with the proof of demand 3.
+pub mod fill;

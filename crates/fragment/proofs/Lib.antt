@@ -1,11 +1,1 @@
-pub mod GrowLaws
-pub mod ChainLaws
-pub mod Paths
-pub mod Checks
-pub mod CountLaws
-pub mod LineLaws
-pub mod PlaceLaws
-pub mod ByteLaws
-pub mod StepLaws
-pub mod FillLaws
-pub mod ShiftLaws
+pub mod LoopLaws

@@ -1,5 +1,1 @@
-pub mod Regions
-pub mod Shift
-pub mod Embed
-pub mod Chains
-pub mod Fill
+pub mod Stands

@@ -174,3 +174,20 @@ pub still-deeper : (f : Fence) (b : ℕ) → deeper b (stillKind f) ≡ b
 still-deeper Outside b = refl
 still-deeper Ticks b = refl
 still-deeper Tildes b = refl
+
+-- what is gathered from kinds line by line, where such a line changes nothing
+module _ {C : Type 0} (step : C → LineKind → C) (F : C → List LineKind → C) (on : (b : C) (k : LineKind) (ks : List LineKind) → F b (k ∷ ks) ≡ F (step b k) ks)
+    (stay : (f : Fence) (b : C) → step b (stillKind f) ≡ b) where
+  -- a blank line before lines
+  pub gather-blank : (b : C) (st : WalkState) (l : List ℕ) (ls : List (List ℕ)) → isBlank l ≡ true → F b (kindsFrom st (l ∷ ls)) ≡ F b (kindsFrom st ls)
+  gather-blank b st l ls e =
+      ap (F b) (blank-kinds st l ls e) ∙ on b (stillKind (st .fence)) (kindsFrom st ls) ∙ ap (λ (c : C). F c (kindsFrom st ls)) (stay (st .fence) b)
+
+  -- n lines blanked
+  gather-still : (n : ℕ) (f : Fence) (b : C) (ks : List LineKind) → F b (replicate n (stillKind f) ++ ks) ≡ F b ks
+  gather-still zero f b ks = refl
+  gather-still (suc n) f b ks =
+      on b (stillKind f) (replicate n (stillKind f) ++ ks) ∙ ap (λ (c : C). F c (replicate n (stillKind f) ++ ks)) (stay f b) ∙ gather-still n f b ks
+
+  pub gather-blanks : (n : ℕ) (b : C) (st : WalkState) (ls : List (List ℕ)) → F b (kindsFrom st (replicate n [] ++ ls)) ≡ F b (kindsFrom st ls)
+  gather-blanks n b st ls = rw (blanks-kinds n st ls) (gather-still n (st .fence) b (kindsFrom st ls))

@@ -13,7 +13,7 @@ use borrow.Author.Tests.{lt-ltb}
 use Rattle.text.specs.Pattern.{equals, later}
 use Rattle.text.specs.declared.pattern.Found.the-variants.{At, Nothing}
 use Rattle.text.proofs.PatternLaws.{later-zero, later-later}
-use Rattle.index.specs.Index.{Record, findRecord, firstNamed}
+use Rattle.index.specs.Index.{Record, filesFrom, findRecord, firstNamed}
 use Rattle.index.specs.Rows.{rowAt, putRow, recordOf, recordsIn, AreNamed}
 use Rattle.index.specs.declared.rows.Row.{Row}
 
@@ -157,3 +157,9 @@ module _ (rows : List ℕ) (n : ℕ) (r : Row) where
         written-2 rows (4 * n) (r .name) (r .end) (r .start) (r .size) k,
         written-3 rows (4 * n) (r .name) (r .end) (r .start) (r .size) k,
       )
+
+-- a file for each record
+pub files-length : (k : ℕ) (contents : List ℕ) (rs : List Record) → length (filesFrom k contents rs) ≡ length rs
+unfolding filesFrom
+files-length k contents [] = refl
+files-length k contents (r ∷ rs) = ap suc (files-length (k + 1) contents rs)

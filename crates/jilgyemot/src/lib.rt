@@ -2,14 +2,45 @@
 ghost use mathlib.Core.Path.{_≡_};
 ghost use lib.ListN.{length};
 ghost use Rattle.answer.specs.Answer.{numbers};
-ghost use Rattle.listing.specs.ScanCall.{answerOf, outputOf};
+ghost use Rattle.listing.specs.ScanCall.{answerOf as answerOfScan, outputOf};
+ghost use Rattle.book.specs.Calls.{fillOutcome, answerOf, outputAfter, workAfter};
 
 // The marker scan of a text: its listing in the output, its answer as six numbers.
 #[no_mangle]
 pub extern "C" fn jilgyemot_scan(text: &[u8], out: &mut [u8], answer: &mut [u64; 6])
-    ensures { λ _. ⌜ now (answer .exit) ≡ numbers (answerOf (length (now (out .entry))) (now (text .entry))) ⌝ }
-    ensures { λ _. ⌜ now (out .exit) ≡ outputOf (answerOf (length (now (out .entry))) (now (text .entry))) (now (text .entry)) (now (out .entry)) ⌝ }
+    ensures { λ _. ⌜ now (answer .exit) ≡ numbers (answerOfScan (length (now (out .entry))) (now (text .entry))) ⌝ }
+    ensures { λ _. ⌜ now (out .exit) ≡ outputOf (answerOfScan (length (now (out .entry))) (now (text .entry))) (now (text .entry)) (now (out .entry)) ⌝ }
 {
     let a = listing::scan(text, out);
     *answer = answer::numbers(a);
+}
+
+// A fill of a host: its text in the output, its answer as six numbers.
+#[no_mangle]
+pub extern "C" fn jilgyemot_fill(
+    index: &[u8],
+    contents: &[u8],
+    name: &[u8],
+    text: &[u8],
+    limit: u64,
+    allowance: u32,
+    out: &mut [u8],
+    work: &mut [u8],
+    answer: &mut [u64; 6],
+)
+    ensures { λ _. ⌜ now (answer .exit) ≡ numbers (answerOf (fillOutcome (now (index .entry)) (now (contents .entry)) (now (name .entry)) (now (text .entry)) limit allowance (length (now (out .entry))) (length (now (work .entry))))) ⌝ }
+    ensures { λ _. ⌜ now (out .exit) ≡ outputAfter (fillOutcome (now (index .entry)) (now (contents .entry)) (now (name .entry)) (now (text .entry)) limit allowance (length (now (out .entry))) (length (now (work .entry)))) (now (out .entry)) ⌝ }
+    ensures { λ _. ⌜ now (work .exit) ≡ workAfter (now (work .entry)) ⌝ }
+{
+    let filled = book::fill::fill(
+        index,
+        contents,
+        name,
+        text,
+        limit as usize,
+        allowance as usize,
+        out,
+        work,
+    );
+    *answer = answer::numbers(filled);
 }

@@ -1,24 +1,22 @@
 // Scans the stored cases of standard input and prints each answer: the six numbers, the listing if the text was accepted, and the outline if it is ASCII.
 ghost use mathlib.Core.Path.{_≡_};
-ghost use Prim.Native.Nat.{_≤_};
 ghost use lib.ListN.{length};
 use answer::Answer;
-use header::Header;
 use libc::STDIN_FILENO;
 use libc::STDOUT_FILENO;
+use stored::header;
+use stored::header::Header;
+use stored::print;
 use text::ascii;
 
-mod header;
 mod outline;
-mod print;
 
 // The loop over the cases has to end, and nothing says that the input does.
 const MOST_CASES: usize = 100_000;
 
-// Writes that the input is damaged. Nothing is read after that.
-fn print_ill_formed() {
-    io::write_all(STDOUT_FILENO, b"ill formed\n");
-}
+const MOST_TEXT: usize = 16_384;
+
+const MOST_ROOM: usize = 65_536;
 
 // Zeros for a text. The `ensures` gives only the length, which lending a part of it needs.
 fn text_buffer() -> [u8; 16384]
@@ -31,7 +29,7 @@ fn text_buffer() -> [u8; 16384]
 fn replay_text(text: &mut [u8], out: &mut [u8]) -> bool {
     let n = io::read_full(STDIN_FILENO, text);
     if n < text.len() {
-        print_ill_formed();
+        stored::print_ill_formed();
         return false;
     }
     let a = listing::scan(text, out);
@@ -45,10 +43,16 @@ fn replay_text(text: &mut [u8], out: &mut [u8]) -> bool {
     true
 }
 
-// A case with a text of so many bytes, scanned into an output of `room` zeros.
-fn replay_case(length: usize, room: usize) -> bool
-    requires { ⌜ (length ≤ 16384) × (room ≤ 65536) ⌝ }
-{
+// A case with a text of so many bytes, scanned into an output of `room` zeros, if there is memory for both.
+fn replay_case(length: usize, room: usize) -> bool {
+    if MOST_TEXT < length {
+        stored::print_ill_formed();
+        return false;
+    }
+    if MOST_ROOM < room {
+        stored::print_ill_formed();
+        return false;
+    }
     let mut text = text_buffer();
     let mut out = io::large_buffer();
     replay_text(&mut text[..length], &mut out[..room])
@@ -61,10 +65,10 @@ fn replay_next() -> bool {
     if n < 14 {
         return false;
     }
-    match header::parse(bytes) {
-        Header::Case { length, room } => replay_case(length, room),
+    match header::parse(&bytes) {
+        Header::Numbers(length, room) => replay_case(length, room),
         Header::IllFormed => {
-            print_ill_formed();
+            stored::print_ill_formed();
             false
         }
     }

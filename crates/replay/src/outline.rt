@@ -1,11 +1,11 @@
 // The outline of a text: a row for each heading, with its anchor, and for each quoted line.
 ghost use Prim.Native.Nat.{_≤_, _<_};
-use crate::print;
 use anchor::AnchorByte;
 use heading::walk;
 use heading::walk::LineKind;
 use heading::walk::WalkState;
 use libc::STDOUT_FILENO;
+use stored::print;
 use text::lines;
 
 // Writes a block that is full. Answers how many of its bytes are in use after that.

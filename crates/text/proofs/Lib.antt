@@ -4,3 +4,4 @@ pub mod AsciiLaws
 pub mod PatternLaws
 pub mod SplitLaws
 pub mod LineLaws
+pub mod LedLaws

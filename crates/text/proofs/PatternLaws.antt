@@ -70,7 +70,7 @@ unfolding startsWith
 starts-self [] = refl
 starts-self (x ∷ s) = rw (eq-eqb x x refl) (starts-self s)
 
-equals-same : (p s : List ℕ) → equals p s ≡ true → p ≡ s
+pub equals-same : (p s : List ℕ) → equals p s ≡ true → p ≡ s
 unfolding equals
 equals-same p s e =
     let h : length s ≡ length p = eqb-true _ _ (and-left (eqb (length s) (length p)) (startsWith p s) e) in

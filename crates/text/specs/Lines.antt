@@ -55,3 +55,8 @@ pieces s = split LF s
 abbrev pub piecesAfter : Bool → ℕ → List ℕ → List (List ℕ)
 piecesAfter true e s = []
 piecesAfter false e s = pieces (drop (e + 1) s)
+
+-- lines behind a text of lines: an LF before each
+unfoldable pub led : List (List ℕ) → List ℕ
+led [] = []
+led (l ∷ ls) = LF ∷ (l ++ led ls)

@@ -1,3 +1,4 @@
 pub mod Sums
 pub mod PartLaws
 pub mod StepsLaws
+pub mod FaultLaws

@@ -6,6 +6,18 @@ use borrow.Author.Needs.{needs}
 use Rattle.replay.proofs.replay_case.Statement.{statement}
 use Rattle.replay.proofs.replay_case.Tie as tie
 
+print-ill-formed-requires : tie.Need-print-ill-formed-requires
+print-ill-formed-requires c κs = search needs
+
+returns : tie.Need-returns
+returns c = search needs
+
+print-ill-formed-requires-2 : tie.Need-print-ill-formed-requires-2
+print-ill-formed-requires-2 c κs = search needs
+
+returns-2 : tie.Need-returns-2
+returns-2 c = search needs
+
 text-buffer-requires : tie.Need-text-buffer-requires
 text-buffer-requires c κs = search needs
 
@@ -27,13 +39,17 @@ slice-aggregate-replay-text-2 c = sym (length-take-le _ _ (omega arith))
 replay-text-requires : tie.Need-replay-text-requires
 replay-text-requires c κs = search needs
 
-returns : tie.Need-returns
-returns c = search needs
+returns-3 : tie.Need-returns-3
+returns-3 c = search needs
 
 pub replay-case-spec : {M : Type 1} → statement M
 replay-case-spec =
     tie.close
     (tie.spec
+    print-ill-formed-requires
+    returns
+    print-ill-formed-requires-2
+    returns-2
     text-buffer-requires
     large-buffer-requires
     array-borrow-prefix-text
@@ -41,4 +57,4 @@ replay-case-spec =
     array-borrow-prefix-out
     slice-aggregate-replay-text-2
     replay-text-requires
-    returns)
+    returns-3)

@@ -1,0 +1,9 @@
+pub mod GrowLaws
+pub mod ChainLaws
+pub mod Paths
+pub mod Checks
+pub mod CountLaws
+pub mod FillLaws
+pub mod FaultLaws
+pub mod TextLaws
+pub mod NumberLaws

@@ -1,0 +1,2 @@
+pub mod UnmarkedLaws
+pub mod DropLaws

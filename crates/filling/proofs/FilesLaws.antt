@@ -1,0 +1,101 @@
+-- The files that rows tell of, one by one, and a name among them. Assumes nothing.
+use Prim.Native.Nat.{ℕ, zero, suc, _+_, _≤_, _<_}
+use native.Mathlib.Nat.{add-zero}
+use native.Mathlib.Omega.{arith}
+use mathlib.Core.Path.{_≡_, refl, sym, _∙_, ap}
+use mathlib.Core.Bool.{Bool, true, false, cond}
+use mathlib.Core.List.{List, [], _∷_}
+use lib.ListN.{length, getD}
+use borrow.Author.Tests.{lt-ltb, le-ltb}
+use Rattle.text.specs.Bytes.{part}
+use Rattle.text.specs.Pattern.{equals, later}
+use Rattle.answer.specs.declared.Place.{Place}
+use Rattle.answer.specs.declared.Refusal.the-variants.{OnChain, Absent, Allowance}
+use Rattle.text.specs.declared.pattern.Found.{Found}
+use Rattle.text.specs.declared.pattern.Found.the-variants.{At, Nothing}
+use Rattle.text.proofs.PatternLaws.{equals-same}
+use Rattle.index.specs.Index.{Record, File, fileOf, fileText, filesFrom, firstNamed, findRecord, findFile}
+use Rattle.index.specs.Rows.{rowAt, recordOf, recordsIn}
+use Rattle.index.specs.declared.rows.Row.{Row}
+use Rattle.index.proofs.RowsLaws.{files-length, records-length, row-forward, row-within, row-fits}
+use Rattle.chains.specs.Chains.{fileAt, nextNamed}
+use Rattle.filling.specs.Filling.{filesIn, Ready, namedOf, Lies}
+use Rattle.filling.specs.declared.Named.{Named}
+use Rattle.filling.specs.declared.Named.the-variants.{File as Names, Refused as Unnamed}
+use Rattle.chains.proofs.GrowLaws.{find-within}
+
+-- a name is looked for among the files as among the records
+pub find-files : (name : List ℕ) (k : ℕ) (contents : List ℕ) (rs : List Record) → findFile name (filesFrom k contents rs) ≡ findRecord name rs
+unfolding filesFrom firstNamed
+find-files name k contents [] = refl
+find-files name k contents (r ∷ rs) = ap (λ (o : Found). cond (equals name (r .name)) (At 0) (later 1 o)) (find-files name (k + 1) contents rs)
+
+-- the file that is found has the name
+pub find-name : (name : List ℕ) (S : List File) (d : ℕ) → findFile name S ≡ At d → fileAt S d .name ≡ name
+unfolding firstNamed
+find-name name [] d e = let z : _≡_ {A = ℕ} 0 1 = cc in absurd (omega arith)
+find-name name (f ∷ S) d e = go (equals name (f .name)) refl (findFile name S) refl e (find-name name S)
+  where
+    go : (b : Bool) → equals name (f .name) ≡ b → (o : Found) → findFile name S ≡ o → cond b (At 0) (later 1 o) ≡ At d → ((k : ℕ) → findFile name S ≡ At k → fileAt S k .name ≡ name)
+        → fileAt (f ∷ S) d .name ≡ name
+    go true q o p h ih = let z : 0 ≡ d = cc in rw (← z) (sym (equals-same name (f .name) q))
+    go false q (At k) p h ih = let z : 1 + k ≡ d = cc in let y : suc k ≡ d = omega arith in rw (← y) (ih k p)
+    go false q Nothing p h ih = let z : _≡_ {A = ℕ} 0 1 = cc in absurd (omega arith)
+
+module _ (index rows contents : List ℕ) where
+  pub set-length : (n : ℕ) → length (filesIn index rows contents n) ≡ n
+  set-length n = files-length 1 contents (recordsIn index rows 0 n) ∙ records-length index rows 0 n
+
+  file-row : (j k n d : ℕ) → d < n
+      → fileAt (filesFrom j contents (recordsIn index rows k n)) d ≡ fileOf (j + d) (recordOf index (rowAt rows (k + d)) .name) (fileText contents (recordOf index (rowAt rows (k + d))))
+  unfolding filesFrom recordsIn
+  file-row j k zero d h = absurd (omega arith)
+  file-row j k (suc n) zero h = rw (add-zero, add-zero)
+  file-row j k (suc n) (suc d) h =
+      let p : j + suc d ≡ (j + 1) + d = omega arith in
+      let q : k + suc d ≡ (k + 1) + d = omega arith in
+      rw (p, q) (file-row (j + 1) (k + 1) n d (omega arith))
+
+  -- file d: its number, its name in the index, its part of the contents
+  set-file : (n d : ℕ) → d < n → fileAt (filesIn index rows contents n) d ≡ fileOf (d + 1) (recordOf index (rowAt rows d) .name) (fileText contents (recordOf index (rowAt rows d)))
+  set-file n d h =
+      let p : d + 1 ≡ 1 + d = omega arith in
+      let q : 0 + d ≡ d = omega arith in
+      rw p (rw q at (file-row 1 0 n d h))
+
+  pub row-file : {r : Row} (n d : ℕ) → r ≡ rowAt rows d → d < n
+      → fileAt (filesIn index rows contents n) d ≡ fileOf (d + 1) (part (r .name) (r .end) index) (part (r .start) (r .start + r .size) contents)
+  row-file n d e h = rw e (set-file n d h)
+
+  -- the row of a name
+  pub find-row : (name : List ℕ) (n d : ℕ) → At d ≡ findRecord name (recordsIn index rows 0 n) → d < n
+  find-row name n d e = omega (arith, find-within name (filesIn index rows contents n) d (find-files name 1 contents (recordsIn index rows 0 n) ∙ sym e), set-length n)
+
+  -- where a name leads: 13, 14, 15, or a file
+  module _ (B used n : ℕ) (top : List ℕ) (m : List Bool) (p : Place) (name : List ℕ) where
+    abbrev leading : Named
+    leading = namedOf B used p (nextNamed (filesIn index rows contents n) top m p name)
+
+    pub named-top : equals top name ≡ true → Unnamed (OnChain p) ≡ leading
+    named-top e = rw e
+
+    module _ (off : equals top name ≡ false) where
+      pub named-absent : Nothing ≡ findRecord name (recordsIn index rows 0 n) → Unnamed (Absent p) ≡ leading
+      named-absent e = rw (off, find-files name 1 contents (recordsIn index rows 0 n), ← e)
+
+      module _ (d : ℕ) (e : At d ≡ findRecord name (recordsIn index rows 0 n)) where
+        pub named-marked : getD m d false ≡ true → Unnamed (OnChain p) ≡ leading
+        named-marked h = rw (off, find-files name 1 contents (recordsIn index rows 0 n), ← e, h)
+
+        pub named-spent : getD m d false ≡ false → B ≤ used → Unnamed (Allowance p) ≡ leading
+        named-spent h k = rw (off, find-files name 1 contents (recordsIn index rows 0 n), ← e, h, le-ltb used B k)
+
+        pub named-given : getD m d false ≡ false → used < B → Names d ≡ leading
+        named-given h k = rw (off, find-files name 1 contents (recordsIn index rows 0 n), ← e, h, lt-ltb used B k)
+
+pub row-lies : {index rows : List ℕ} {room n : ℕ} {r : Row} (d : ℕ) → Ready index rows room n → r ≡ rowAt rows d → d < n → Lies (length index) room r
+row-lies {index} {rows} {room} d a e h = record {
+  forward = row-forward e (a .named .forward d h);
+  within = row-within e (length index) (a .named .within d h);
+  fits = row-fits e room (a .within .fits d h);
+}

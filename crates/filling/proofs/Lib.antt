@@ -1,0 +1,5 @@
+pub mod FilesLaws
+pub mod TurnLaws
+pub mod TakenLaws
+pub mod RoomLaws
+pub mod NextLaws

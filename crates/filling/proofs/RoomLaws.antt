@@ -1,0 +1,87 @@
+-- The buffer of a fill: a part that is lent and comes back, bytes put behind a text, and room for each file not on the chain. Assumes nothing.
+use Prim.Native.Nat.{ℕ, suc, _+_, _-_, _*_, _≤_, _<_}
+use native.Mathlib.Nat.{suc-mul}
+use native.Mathlib.Omega.{arith}
+use mathlib.Core.Path.{_≡_, refl, sym, _∙_, ap}
+use mathlib.Core.Bool.{Bool, true, false, cond}
+use mathlib.Core.List.{List, [], _++_, append-nil}
+use lib.Dec.{leb}
+use lib.ListN.{length, getD, take, drop, set, length-append, length-drop, drop-of-length-le}
+use lib.Seq.{sets, sets-eq, length-take-le, take-all, take-append-le, take-take, take-at, drop-at, take-set-lt, getD-take}
+use borrow.Author.Tests.{le-leb, lt-leb}
+use Rattle.answer.specs.declared.Place.{Place}
+use Rattle.answer.specs.declared.Refusal.the-variants.{TextLimit}
+use Rattle.text.specs.Bytes.{part}
+use Rattle.insertion.specs.Insertion.{joined, stopped, tested}
+use Rattle.chains.specs.Chains.{free}
+use Rattle.chains.proofs.GrowLaws.{free-set}
+
+-- ---- a part that was lent and has come back
+
+module _ (w y : List ℕ) (limit : ℕ) (h : limit ≤ length w) (k : length y ≡ length w - limit) where
+  pub back-take : (n : ℕ) → n ≤ limit → take n (take limit w ++ (y ++ drop (length w - limit) (drop limit w))) ≡ take n w
+  back-take n l =
+      take-append-le n (take limit w) (y ++ drop (length w - limit) (drop limit w)) (omega (arith, length-take-le limit w h))
+      ∙ take-take n limit w l
+
+  pub back-drop : drop limit (take limit w ++ (y ++ drop (length w - limit) (drop limit w))) ≡ y
+  back-drop =
+      drop-at (take limit w) (y ++ drop (length w - limit) (drop limit w)) limit (length-take-le limit w h)
+      ∙ ap (λ r. y ++ r) (drop-of-length-le (drop limit w) {i = length w - limit} (omega (arith, length-drop limit w)))
+      ∙ append-nil y
+
+  pub back-length : length (take limit w ++ (y ++ drop (length w - limit) (drop limit w))) ≡ length w
+  back-length = simp (length-append, length-take-le limit w h, length-drop) (omega (arith, length-drop limit w))
+
+  pub back-part : (n : ℕ) → part limit (limit + n) (take limit w ++ (y ++ drop (length w - limit) (drop limit w))) ≡ take n y
+  back-part n = let e : limit + n - limit ≡ n = omega arith in rw e (ap (take n) back-drop)
+
+-- the part that is lent to the next level
+pub lent-all : (w : List ℕ) (limit : ℕ) → take (length w - limit) (drop limit w) ≡ drop limit w
+lent-all w limit = take-all (length w - limit) (drop limit w) (omega (arith, length-drop limit w))
+
+pub lent-length : (w : List ℕ) (limit : ℕ) → limit ≤ length w → length (take (length w - limit) (drop limit w)) ≡ length w - limit
+lent-length w limit h = length-take-le (length w - limit) (drop limit w) (omega (arith, length-drop limit w))
+
+-- ---- bytes put behind a text, or no room
+
+module _ (L : ℕ) (p : Place) (w s : List ℕ) (len : ℕ) where
+  put-length : len ≤ length w → length (take len w ++ s) ≡ len + length s
+  put-length h = length-append (take len w) s ∙ ap (λ (n : ℕ). n + length s) (length-take-le len w h)
+
+  put-in : len + length s ≤ L → L ≤ length w → joined (take (len + length s) (sets w len s)) ≡ tested L p (take len w ++ s)
+  put-in h k =
+      let e : length (take len w ++ s) ≡ len + length s = put-length (omega arith) in
+      ap joined (ap (take (len + length s)) (sets-eq s w len (omega arith)) ∙ take-at (take len w ++ s) (drop (len + length s) w) (len + length s) e)
+      ∙ rw (le-leb (length (take len w ++ s)) L (omega arith))
+
+  -- what a copy leaves and answers
+  pub put-done : (y : List ℕ) (r : ℕ) → len + length s ≤ L → L ≤ length w → y ≡ sets w len s → r ≡ len + length s → (joined (take r y) ≡ tested L p (take len w ++ s)) × (r ≤ L)
+  put-done y r h k e i = (rw (e, i) (put-in h k), omega arith)
+
+  pub put-over : len ≤ length w → L < len + length s → stopped (TextLimit p) ≡ tested L p (take len w ++ s)
+  put-over h k =
+      let e : length (take len w ++ s) ≡ len + length s = put-length h in
+      rw (lt-leb (length (take len w ++ s)) L (omega arith))
+
+-- ---- room for each file not on the chain
+
+module _ (m : List Bool) (n d : ℕ) (h : d < n) (k : n ≤ length m) (e : getD m d false ≡ false) where
+  -- with the file d on it one less
+  pub free-next : free (take n m) ≡ suc (free (take n (set m d true)))
+  free-next =
+      rw (take-set-lt n m d true h)
+      (free-set (take n m) d (omega (arith, length-take-le n m k)) (getD-take n m d false h ∙ e))
+
+  module _ (L W : ℕ) (r : suc (free (take n m)) * L ≤ W) where
+    pub room-next : suc (free (take n (set m d true))) * L + L ≤ W
+    room-next =
+        let f = free-next in
+        let a : suc (free (take n m)) * L ≡ free (take n m) * L + L = suc-mul (free (take n m)) L in
+        let b : free (take n m) * L ≡ suc (free (take n (set m d true))) * L = ap (λ (x : ℕ). x * L) f in
+        omega arith
+
+    pub room-two : L + L ≤ W
+    room-two =
+        let a : suc (free (take n (set m d true))) * L ≡ free (take n (set m d true)) * L + L = suc-mul (free (take n (set m d true))) L in
+        omega (arith, room-next)

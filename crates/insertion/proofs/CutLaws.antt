@@ -1,0 +1,78 @@
+-- Laws of the bytes that a line loses, and of a heading's line, whose hashes and space start no link. Assumes nothing.
+use Prim.Native.Nat.{ℕ, zero, suc, _+_, _-_, _≤_, _<_}
+use native.Mathlib.Nat.{sub-self}
+use native.Mathlib.Omega.{arith}
+use mathlib.Core.Path.{_≡_, refl, sym, ap, _∙_}
+use mathlib.Core.List.{List, [], _∷_, _++_, append-assoc}
+use lib.ListN.{length, drop, length-append, take-append-drop}
+use lib.Seq.{take-add, drop-drop}
+use Rattle.text.specs.Bytes.{part}
+use Rattle.text.specs.Pattern.{startsWith}
+use Rattle.text.proofs.BytesLaws.{drop-take, part-full}
+use Rattle.heading.specs.Level.{headingLine}
+use Rattle.link.specs.Links.{relink, FoundLink}
+use Rattle.link.specs.Target.{anchorSelf}
+use Rattle.link.specs.declared.links.NextLink.the-variants.{Link, NoLink}
+use Rattle.insertion.specs.Parts.{linkedText, FoundCut}
+use Rattle.insertion.specs.declared.cut.Cut.the-variants.{Bytes, NoCut}
+
+-- parts side by side
+pub part-join : (s : List ℕ) (i a e : ℕ) → i ≤ a → a ≤ e → part i a s ++ part a e s ≡ part i e s
+part-join s i a e h k =
+    let n : i + (a - i) ≡ a = omega arith in
+    let m : e - i ≡ (a - i) + (e - a) = omega arith in
+    rw m (sym (take-add (a - i) (e - a) (drop i s) ∙ rw (drop-drop (a - i) i s, n)))
+
+pub part-rest : (s : List ℕ) (i a : ℕ) → i ≤ a → part i a s ++ drop a s ≡ drop i s
+part-rest s i a h =
+    let n : i + (a - i) ≡ a = omega arith in
+    let d : drop a s ≡ drop (a - i) (drop i s) = sym (drop-drop (a - i) i s ∙ ap (λ (k : ℕ). drop k s) n) in
+    rw d (take-append-drop (a - i) (drop i s))
+
+pub part-drop : (s : List ℕ) (a e n : ℕ) → drop n (part a e s) ≡ part (a + n) e s
+part-drop s a e n =
+    let k : e - a - n ≡ e - (a + n) = omega arith in
+    drop-take (drop a s) n (e - a) ∙ rw (drop-drop n a s, k)
+
+-- a link takes bytes, since it can become any text
+pub link-long : (l : List ℕ) (i a e : ℕ) → FoundLink l i (Link a e) → i < e
+link-long l i a e h =
+    let f : List ℕ → List ℕ = λ t. 0 ∷ [] in
+    let d : e ≡ i → ⊥ =
+    λ q. omega (arith, ap length (h .1 f), length-append (part i a l) (0 ∷ relink f (drop e l)), ap (λ (k : ℕ). length (relink f (drop k l))) q) in
+    omega arith
+
+pub heading-linked : (f : List ℕ → List ℕ) (n : ℕ) (text : List ℕ) → relink f (headingLine n text) ≡ headingLine n [] ++ relink f text
+unfolding relink startsWith
+heading-linked f zero text = refl
+heading-linked f (suc n) text = ap (λ (x : List ℕ). 0x23 ∷ x) (heading-linked f n text)
+
+-- the bytes passed stay as they are
+pub record Passed (host dir l : List ℕ) (from i : ℕ) : Type 0 where
+  pub order : from ≤ i
+  pub within : i ≤ length l
+  pub same : linkedText host dir (drop from l) ≡ part from i l ++ linkedText host dir (drop i l)
+
+pub passed-start : (host dir l : List ℕ) (i : ℕ) → i ≤ length l → Passed host dir l i i
+passed-start host dir l i h = record { order = omega arith; within = h; same = rw sub-self }
+
+module _ {host dir l : List ℕ} {from i : ℕ} (p : Passed host dir l from i) where
+  pub passed-none : FoundLink l i NoLink → FoundCut host dir l from NoCut
+  passed-none h = p .same ∙ rw (h (anchorSelf host dir)) (part-rest l from i (p .order))
+
+  module _ (a e n : ℕ) (h : FoundLink l i (Link a e)) (t : drop n (part a e l) ≡ anchorSelf host dir (part a e l)) where
+    found : linkedText host dir (drop from l) ≡ part from a l ++ (drop n (part a e l) ++ linkedText host dir (drop e l))
+    found =
+        p .same
+        ∙ rw (h .1 (anchorSelf host dir), ← t, ← append-assoc (part from i l) (part i a l) (drop n (part a e l) ++ linkedText host dir (drop e l)))
+        (ap (λ (x : List ℕ). x ++ (drop n (part a e l) ++ linkedText host dir (drop e l))) (part-join l from i a (p .order) (h .0 .0)))
+
+    pub passed-on : n ≡ 0 → Passed host dir l from e
+    passed-on z = record { order = omega (arith, p .order, h .0 .0, h .0 .1 .0); within = omega (arith, h .0 .1 .1); same = same }
+      where
+        same : linkedText host dir (drop from l) ≡ part from e l ++ linkedText host dir (drop e l)
+        same = found ∙ rw (z, ← append-assoc (part from a l) (part a e l) (linkedText host dir (drop e l)), part-join l from a e (omega (arith, p .order, h .0 .0)) (h .0 .1 .0))
+
+    pub passed-cut : 0 < n → n ≤ length (part a e l) → FoundCut host dir l from (Bytes a (a + n) e)
+    passed-cut z k =
+        ((omega (arith, p .order, h .0 .0), (omega arith, (omega (arith, part-full l a e (omega (arith, h .0 .1 .1)), h .0 .1 .0), omega (arith, h .0 .1 .1)))), found ∙ rw (part-drop l a e n))

@@ -1,0 +1,4 @@
+pub mod CutLaws
+pub mod PutLaws
+pub mod LinkedLaws
+pub mod PlanLaws

@@ -1,0 +1,161 @@
+// What is put at a place of the work buffer, within the limit.
+ghost use mathlib.Core.List.{[], _++_};
+ghost use Prim.Native.Nat.{_+_, _≤_};
+ghost use lib.ListN.{length};
+ghost use lib.Signed.{mag};
+ghost use Rattle.text.specs.Bytes.{part};
+ghost use Rattle.heading.specs.Level.{headingLine};
+ghost use Rattle.insertion.specs.Insertion.{sourceText};
+ghost use Rattle.insertion.specs.Parts.{Able, Wrote, startOf, linkedText, linkedLines};
+use crate::Source;
+use crate::cut::Cut;
+use crate::line::NewText;
+use crate::read;
+use heading::level;
+
+// A place of the work buffer, and the limit.
+pub struct Room {
+    pub at: usize,
+    pub limit: usize,
+}
+
+// The place after what was put, or that it went over the limit.
+pub enum Put {
+    To(usize),
+    Over,
+}
+
+// A heading's hashes and the space behind them.
+fn put_hashes(level: usize, room: Room, work: &mut [u8]) -> Put
+    requires { ⌜ (level ≤ 6) × ((room .at ≤ room .limit) × (room .limit ≤ length (now work))) ⌝ }
+    ensures { λ r. ⌜ Wrote room (headingLine level []) (now (work .entry)) (now (work .exit)) r ⌝ }
+{
+    if room.limit - room.at < level + 1 {
+        return Put::Over;
+    }
+    Put::To(level::put_heading(work, room.at, level, b""))
+}
+
+// What stands before a line's text: an LF, and a heading's hashes and space.
+fn put_start(level: usize, room: Room, work: &mut [u8]) -> Put
+    requires { ⌜ (level ≤ 6) × ((room .at ≤ room .limit) × (room .limit ≤ length (now work))) ⌝ }
+    ensures { λ r. ⌜ Wrote room (startOf level) (now (work .entry)) (now (work .exit)) r ⌝ }
+{
+    let at = room.at;
+    let limit = room.limit;
+    if limit == at {
+        return Put::Over;
+    }
+    work[at] = b'\n';
+    if level == 0 {
+        return Put::To(at + 1);
+    }
+    put_hashes(level, Room { at: at + 1, limit }, work)
+}
+
+// A part of a source as it is.
+fn put_part(contents: &[u8], source: Source, a: usize, e: usize, room: Room, work: &mut [u8]) -> Put
+    requires { ⌜ Able source room (now contents) (now work) × ((a ≤ e) × (source .start + e ≤ source .end)) ⌝ }
+    ensures { λ r. ⌜ Wrote room (part a e (sourceText source (now (contents .entry)) (now (work .entry)))) (now (work .entry)) (now (work .exit)) r ⌝ }
+{
+    if room.limit - room.at < e - a {
+        return Put::Over;
+    }
+    let from = source.start + a;
+    let to = source.start + e;
+    if source.work {
+        return Put::To(buffer::copy_down(work, from, to, room.at));
+    }
+    Put::To(buffer::copy(&contents[from..to], work, room.at))
+}
+
+// A source without the bytes that go.
+fn put_cuts(
+    contents: &[u8],
+    source: Source,
+    dir: &[u8],
+    host: &[u8],
+    room: Room,
+    work: &mut [u8],
+) -> Put
+    requires { ⌜ Able source room (now contents) (now work) ⌝ }
+    ensures { λ r. ⌜ Wrote room (linkedText (now (host .entry)) (now (dir .entry)) (sourceText source (now (contents .entry)) (now (work .entry)))) (now (work .entry)) (now (work .exit)) r ⌝ }
+{
+    let limit = room.limit;
+    let mut at = room.at;
+    let mut i = 0;
+    loop {
+        let Cut::Bytes { start, end, next } = read::cut_in(contents, work, source, i, dir, host)
+        else {
+            return put_part(
+                contents,
+                source,
+                i,
+                source.end - source.start,
+                Room { at, limit },
+                work,
+            );
+        };
+        let Put::To(m) = put_part(contents, source, i, start, Room { at, limit }, work) else {
+            return Put::Over;
+        };
+        let Put::To(n) = put_part(contents, source, end, next, Room { at: m, limit }, work) else {
+            return Put::Over;
+        };
+        at = n;
+        i = next;
+    }
+}
+
+// A line as it becomes, an LF before it.
+fn put_line(
+    contents: &[u8],
+    source: Source,
+    new: NewText,
+    dir: &[u8],
+    host: &[u8],
+    room: Room,
+    work: &mut [u8],
+) -> Put
+    requires { ⌜ Able source room (now contents) (now work) × ((new .level ≤ 6) × ((new .start ≤ new .end) × (source .start + new .end ≤ source .end))) ⌝ }
+    ensures { λ r. ⌜ Wrote room (startOf (new .level) ++ linkedText (now (host .entry)) (now (dir .entry)) (part (new .start) (new .end) (sourceText source (now (contents .entry)) (now (work .entry))))) (now (work .entry)) (now (work .exit)) r ⌝ }
+{
+    let limit = room.limit;
+    let Put::To(at) = put_start(new.level, room, work) else {
+        return Put::Over;
+    };
+    let text = read::part_of(source, new.start, new.end);
+    put_cuts(contents, text, dir, host, Room { at, limit }, work)
+}
+
+// The lines of a source as they become, an LF before each.
+pub fn put_lines(
+    contents: &[u8],
+    source: Source,
+    shift: i32,
+    dir: &[u8],
+    host: &[u8],
+    room: Room,
+    work: &mut [u8],
+) -> Put
+    requires { ⌜ Able source room (now contents) (now work) × (mag shift ≤ 7) ⌝ }
+    ensures { λ r. ⌜ Wrote room (linkedLines (now (host .entry)) (now (dir .entry)) shift (sourceText source (now (contents .entry)) (now (work .entry)))) (now (work .entry)) (now (work .exit)) r ⌝ }
+{
+    let limit = room.limit;
+    let mut at = room.at;
+    let mut a = 0;
+    let mut state = heading::walk::begin();
+    loop {
+        let w = read::line_in(contents, work, source, a, state, shift);
+        let new = w.text;
+        let Put::To(n) = put_line(contents, source, new, dir, host, Room { at, limit }, work) else {
+            return Put::Over;
+        };
+        if w.last {
+            return Put::To(n);
+        }
+        at = n;
+        a = w.end + 1;
+        state = w.state;
+    }
+}

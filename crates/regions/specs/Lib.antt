@@ -1,0 +1,4 @@
+pub mod Regions
+pub mod Hosts
+pub mod Own
+pub mod Surveys

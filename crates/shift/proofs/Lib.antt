@@ -1,0 +1,4 @@
+pub mod ShiftLaws
+pub mod LevelsLaws
+pub mod EndsLaws
+pub mod Checks

@@ -1,0 +1,3 @@
+pub mod Shift
+pub mod Ends
+pub mod Levels
