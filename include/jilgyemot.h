@@ -15,8 +15,8 @@ extern "C" {
  *   no region   1, 0, 0, 0, 0, 0
  *   refused     2, number, file, line, second file, second line
  * Numbers, files and lines are those of document 01. A text is any bytes. A
- * pointer may be null where its length is 0. The buffers of one call may not
- * overlap, and the answer has room for six numbers.
+ * pointer may be null where its length is 0. The answer has room for six
+ * numbers. Output, work and answer overlap neither each other nor what is read.
  */
 
 /*
@@ -27,6 +27,46 @@ extern "C" {
  */
 void jilgyemot_scan(const uint8_t *text, size_t text_length,
                     uint8_t *out, size_t out_length,
+                    uint64_t answer[6]);
+
+/*
+ * Fills the regions of a host with the files that they name. The index has a
+ * line for each file, with its LF: name, start and length of its part of the
+ * contents, tabs between them; 0 to 64 lines. A name has 1 to 255 bytes of 20 to
+ * 7E hex, a number 1 to 9 digits and no zero in front of others. The limit is 1 to 1,048,576: no
+ * text made on the way may be longer. The allowance is how many files may be
+ * taken in, each counted as often as a region takes it in. The output has at
+ * least `limit` bytes, and work at least (index lines + 2) times `limit`; it may
+ * hold anything, and is zero after every call.
+ *
+ * Accepted: 0, the text's length, how often a file was taken in, 0, 0, 0. The
+ * output begins with the text, and its other bytes are unchanged. No region: 1,
+ * 0, 0, 0, 0, 0; the host stays as it is. Refused: 2, the number, and its place:
+ * the file's index line or 0 for the host, and the line in it, both counted from
+ * 1, or 0 where there is none; then 0, 0. No region and a refusal leave the
+ * output unchanged.
+ *   1  index line ill formed           9   region opened in a region
+ *   2  over 64 index lines             10  fragment marker sharing its line or
+ *   3  part ends past the contents         ill spelled
+ *   4  name twice                      11  region never closed
+ *   5  byte 80 hex or above            12  peer with no own heading above
+ *   6  host name not 1 to 255 bytes    13  names a file on the chain
+ *      of 20 to 7E hex                 14  file not in the index
+ *   8  limit outside its range, or     15  allowance used up
+ *      a buffer short                  16  heading past level 6
+ *                                      17  text longer than the limit
+ * 1 to 4 stand at the index's line, with file 0; 5 at the byte's line, the host
+ * first; 6 and 8 at 0, 0; 9 and 10 at the marker, 11 to 15 at the opener. 16 stands in the file named, and its line counts the lines that
+ * are put in. 17 stands in the text being filled, at the opener of its region, or
+ * at line 0 behind the last region.
+ */
+void jilgyemot_fill(const uint8_t *index, size_t index_length,
+                    const uint8_t *contents, size_t contents_length,
+                    const uint8_t *host_name, size_t host_name_length,
+                    const uint8_t *host_text, size_t host_text_length,
+                    uint64_t limit, uint32_t allowance,
+                    uint8_t *out, size_t out_length,
+                    uint8_t *work, size_t work_length,
                     uint64_t answer[6]);
 
 #ifdef __cplusplus

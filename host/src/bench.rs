@@ -1,6 +1,8 @@
-//! Times the library's scan beside the Rust's, by turns in one run.
+//! Times the library's scan and fill beside the Rust's, by turns in one run.
 
+mod bench_fill;
 mod library;
+mod library_fill;
 
 use std::hint::black_box;
 use std::time::Instant;
@@ -70,4 +72,6 @@ fn main() {
         let (rust, ours) = measure(&text);
         println!("{name:36} {rust:9.4} {ours:9.4} {:10.3}", ours / rust);
     }
+    println!();
+    bench_fill::print_table();
 }

@@ -173,7 +173,7 @@ pub fn damaged(random: &mut Random) -> Vec<u8> {
 const TELLING_BYTES: &[u8] = b"<!-[]/>`~:a# \t\n\x0b\x0c\r\0\x08\x0e\x1c\x1f\x7f";
 const WIDE_BYTES: &[u8] = b"\x80\x85\xa0\xbf\xc3\xff";
 
-fn damage(random: &mut Random, text: &mut Vec<u8>) {
+pub fn damage(random: &mut Random, text: &mut Vec<u8>) {
     let from = random.below(text.len() + 1);
     let to = (from + random.below(20)).min(text.len());
     match random.below(8) {

@@ -166,7 +166,7 @@ fn wide_bytes(
 }
 
 /// A name for the host, or a URL.
-fn host_name(bad: bool, random: &mut Random) -> Vec<u8> {
+pub fn host_name(bad: bool, random: &mut Random) -> Vec<u8> {
     let some = random.within(1, 30);
     let size = random.pick(&[1, 255, some, some]);
     let mut name: Vec<u8> = (0..size).map(|_| random.within(0x20, 0x7E) as u8).collect();
@@ -231,7 +231,7 @@ const BAD_FIELDS: [&str; 29] = [
 
 const BAD_NAME_BYTES: &[u8] = b"\0\t\r\x1f\x7f\x80\xff";
 
-fn bad_line(mut name: Vec<u8>, random: &mut Random) -> Vec<u8> {
+pub fn bad_line(mut name: Vec<u8>, random: &mut Random) -> Vec<u8> {
     match random.below(6) {
         0 => name.clear(),
         1 => name.resize(random.within(256, 257), b'x'),
@@ -271,7 +271,7 @@ fn index(
 }
 
 /// Leaves out the last LF, or changes a byte somewhere.
-fn damage(index: &mut Vec<u8>, random: &mut Random) {
+pub fn damage(index: &mut Vec<u8>, random: &mut Random) {
     let at = random.below(index.len());
     match random.below(4) {
         0 => drop(index.pop()),

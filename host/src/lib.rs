@@ -5,6 +5,7 @@ pub mod anchor;
 pub mod answer;
 pub mod comparison;
 pub mod exhaustive;
+pub mod filling;
 pub mod generate;
 pub mod headed;
 pub mod indexed;

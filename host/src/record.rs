@@ -2,6 +2,7 @@
 //! has to print, all of it from the Rust's answers.
 
 mod json;
+mod record_fill;
 
 use std::fs;
 use std::path::Path;
@@ -13,7 +14,7 @@ use jilgyemot_host::outline::outline;
 use jilgyemot_host::random::Random;
 use jilgyemot_host::regions::regions;
 
-const USAGE: &str = "usage: record FOLDER --examples FILE";
+const USAGE: &str = "usage: record FOLDER --examples FILE, or record FOLDER --fills";
 
 const MOST_TEXT: usize = 16_384;
 const MOST_OUTPUT: usize = 65_536;
@@ -209,21 +210,31 @@ fn add_generated(cases: &mut Cases) {
     cases.add(&marker_in_each_line(MOST_TEXT), MOST_OUTPUT);
 }
 
+fn add_scans(examples: &str, cases: &mut Cases) {
+    add_document_examples(cases);
+    add_commonmark(examples, cases).expect("a list of examples");
+    add_headings(cases);
+    add_differences(cases).expect("a list of named cases");
+    add_generated(cases);
+}
+
 fn main() -> std::io::Result<()> {
     let words: Vec<String> = std::env::args().skip(1).collect();
-    let (folder, examples) = match words.as_slice() {
-        [folder, option, examples] if option == "--examples" => (folder, examples),
+    let mut cases = Cases::default();
+    let folder = match words.as_slice() {
+        [folder, option, examples] if option == "--examples" => {
+            add_scans(&fs::read_to_string(examples)?, &mut cases);
+            folder
+        }
+        [folder, option] if option == "--fills" => {
+            record_fill::add_fills(&mut cases);
+            folder
+        }
         _ => {
             eprintln!("{USAGE}");
             std::process::exit(2);
         }
     };
-    let mut cases = Cases::default();
-    add_document_examples(&mut cases);
-    add_commonmark(&fs::read_to_string(examples)?, &mut cases).expect("a list of examples");
-    add_headings(&mut cases);
-    add_differences(&mut cases).expect("a list of named cases");
-    add_generated(&mut cases);
     fs::write(Path::new(folder).join("stdin"), cases.stdin)?;
     fs::write(Path::new(folder).join("stdout"), cases.stdout)
 }

@@ -24,10 +24,11 @@ pub struct Sizes {
     pub work: u64,
 }
 
-struct Record<'a> {
-    name: &'a [u8],
-    start: usize,
-    length: usize,
+/// A well-formed line of an index.
+pub struct Record<'a> {
+    pub name: &'a [u8],
+    pub start: usize,
+    pub length: usize,
 }
 
 /// The faults of a fill in their order: the first is the one that is given. Of
@@ -75,7 +76,7 @@ fn lines(text: &[u8]) -> (Vec<&[u8]>, &[u8]) {
     (lines, rest)
 }
 
-fn records(index: &[u8]) -> Vec<Record<'_>> {
+pub fn records(index: &[u8]) -> Vec<Record<'_>> {
     lines(index).0.into_iter().filter_map(record).collect()
 }
 
@@ -123,7 +124,7 @@ fn name_form(name: &[u8]) -> Option<Answer> {
 }
 
 /// Refusal 8, where the work buffer has to hold so many texts and two more.
-fn short_sizes(sizes: Sizes, texts: usize) -> Option<Answer> {
+pub fn short_sizes(sizes: Sizes, texts: usize) -> Option<Answer> {
     let Sizes { limit, out, work } = sizes;
     let full = (texts as u128 + 2) * u128::from(limit);
     let good = (1..=1_048_576).contains(&limit) && out >= limit && u128::from(work) >= full;

@@ -4,17 +4,20 @@
 mod notes;
 #[allow(dead_code)]
 mod random;
+mod stack_fill;
 
 use std::arch::naked_asm;
 use std::hint::black_box;
 
 use notes::{long_line, marker_in_each_line, notes};
 use random::Random;
+use stack_fill::fills;
 
 // Only the addresses are taken here; `painted_call` passes the arguments.
 #[link(name = "jilgyemot", kind = "static")]
 unsafe extern "C" {
     fn jilgyemot_scan();
+    fn jilgyemot_fill();
 }
 
 type Address = unsafe extern "C" fn();
@@ -29,8 +32,10 @@ struct Call {
 }
 
 /// A row for each call of the library.
-const CALLS: [Call; 1] =
-    [Call { name: "jilgyemot_scan", address: jilgyemot_scan, bound: 20_480, inputs: scans }];
+const CALLS: [Call; 2] = [
+    Call { name: "jilgyemot_scan", address: jilgyemot_scan, bound: 20_480, inputs: scans },
+    Call { name: "jilgyemot_fill", address: jilgyemot_fill, bound: 131_072, inputs: fills },
+];
 
 /// What a call is given before its answer, and how it has to answer.
 struct Input {

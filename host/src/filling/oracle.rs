@@ -1,0 +1,149 @@
+//! What a fill has to answer. Texts and faults are those of the Rust's
+//! `fragment::fill`; its messages are taken apart into number and place. Of the
+//! limits, which the Rust does not have, the model tells.
+
+use std::cell::Cell;
+
+use doc_gen::fragment::{self, Files};
+
+use super::case::{Case, File};
+use super::limits::Limits;
+use super::model::{End, Place, Walk};
+use crate::answer::Answer;
+use crate::refusals::{Sizes, short_sizes};
+
+/// The most files that a walk takes in, if nothing else is said.
+const MOST_TAKEN: usize = 1_000;
+
+/// What the Rust is told of a name that no record bears.
+const ABSENT: &str = "not in the index";
+
+/// What the Rust is told when it reads too often.
+const TOO_OFTEN: &str = "read too often";
+
+/// Reads from the index up to `most` times, and counts.
+struct Reader<'a> {
+    files: &'a [File<'a>],
+    reads: Cell<usize>,
+    most: usize,
+}
+
+impl Files for Reader<'_> {
+    fn read(&self, path: &str) -> Result<String, String> {
+        let found = self.files.iter().find(|(name, _)| *name == path.as_bytes());
+        let (_, text) = found.ok_or(ABSENT)?;
+        self.reads.set(self.reads.get() + 1);
+        if self.reads.get() > self.most {
+            return Err(TOO_OFTEN.to_string());
+        }
+        Ok(ascii(text).to_string())
+    }
+}
+
+fn ascii(text: &[u8]) -> &str {
+    str::from_utf8(text).expect("wide bytes are refused before the walk")
+}
+
+/// What the Rust gives, and how many files it read, which are not to be over `most`.
+fn rust(files: &[File], name: &[u8], text: &[u8], most: usize) -> (End, usize) {
+    let reader = Reader { files, reads: Cell::new(0), most };
+    let end = match fragment::fill(ascii(name), ascii(text), &reader) {
+        Ok(Some(text)) => End::Text(text.into_bytes()),
+        Ok(None) => End::NoRegion,
+        Err(message) => taken_apart(&message, ascii(name), files),
+    };
+    (end, reader.reads.get())
+}
+
+/// A message is a path, a line and what is wrong. Only the host's name may hold a
+/// colon, since no region can name such a file.
+fn taken_apart(message: &str, host: &str, files: &[File]) -> End {
+    let names = files.iter().map(|(name, _)| ascii(name)).enumerate();
+    let named = names.filter(|(_, name)| !name.contains(':')).map(|(at, name)| (at + 1, name));
+    let read = |(file, name): (usize, &str)| {
+        let (line, wrong) = message.strip_prefix(name)?.strip_prefix(':')?.split_once(": ")?;
+        let number = number(wrong)?;
+        Some((number, Place { file, line: line.parse().ok()? }))
+    };
+    match std::iter::once((0, host)).chain(named).find_map(read) {
+        Some((0, _)) => End::Unfinished,
+        Some((number, place)) => End::Fault { number, place },
+        None => panic!("no number is known for {message:?}"),
+    }
+}
+
+/// Document 01's number; 0 where the Rust read too often. Paths hold no LF, and in
+/// a message of 16 one stands behind the heading's text.
+fn number(wrong: &str) -> Option<u64> {
+    let starts = |part: &str| wrong.starts_with(part);
+    match wrong {
+        TOO_OFTEN => Some(0),
+        ABSENT => Some(14),
+        _ if starts("a fragment region inside another fragment region: ") => Some(9),
+        _ if starts("a fragment marker sharing its line: ") => Some(10),
+        _ if starts("fragment region '") && wrong.contains("' is never closed by '") => Some(11),
+        _ if starts("the marker says peer, but no heading sits above it") => Some(12),
+        _ if wrong.contains(", which markdown has no room for.\n") => Some(16),
+        _ if starts("'") && wrong.contains("' is assembled from itself: ") => Some(13),
+        _ => None,
+    }
+}
+
+/// What a case has to answer at any limits.
+pub struct Expected {
+    /// One of 1 to 6.
+    pub refused: Option<Answer>,
+    pub walk: Walk,
+    pub records: usize,
+}
+
+impl Expected {
+    /// Says where the model and the Rust differ.
+    pub fn of(case: &Case) -> Result<Self, String> {
+        Expected::within(case, MOST_TAKEN)
+    }
+
+    /// The same for walks that take in `most` files.
+    pub fn within(case: &Case, most: usize) -> Result<Self, String> {
+        let refused = case.refusal();
+        if refused.is_some() {
+            let walk = Walk { steps: Vec::new(), end: End::NoRegion, deepest: 0 };
+            return Ok(Expected { refused, walk, records: 0 });
+        }
+        let files = case.files();
+        let walk = Walk::of(&files, &case.name, &case.text, most);
+        let (end, reads) = rust(&files, &case.name, &case.text, most);
+        let accepted = matches!(end, End::Text(_));
+        if walk.end != end || (accepted && walk.taken() != reads) {
+            let model = shown(&walk.end, walk.taken());
+            return Err(format!("model {model}\nRust  {}", shown(&end, reads)));
+        }
+        Ok(Expected { refused: None, walk, records: files.len() })
+    }
+
+    /// The six numbers; none where the walk is unfinished.
+    pub fn answer(&self, limits: &Limits) -> Option<Answer> {
+        let &Limits { limit, allowance, out, work } = limits;
+        let sizes = Sizes { limit, out: out as u64, work: work as u64 };
+        let refused = self.refused.or_else(|| short_sizes(sizes, self.records));
+        refused.or_else(|| self.walk.answer(limit, allowance))
+    }
+
+    /// What the output begins with after a call with this answer.
+    pub fn written(&self, answer: &Answer) -> &[u8] {
+        match &self.walk.end {
+            End::Text(text) if answer[0] == 0 => text,
+            _ => &[],
+        }
+    }
+}
+
+fn shown(end: &End, taken: usize) -> String {
+    let end = match end {
+        End::Text(text) => format!("text {}", text.escape_ascii()),
+        End::NoRegion => "no region".to_string(),
+        End::Fault { number, place } => format!("refusal {number}, {place:?}"),
+        End::Unfinished => "unfinished".to_string(),
+    };
+    format!("{end}, {taken} files taken in")
+}
