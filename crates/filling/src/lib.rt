@@ -16,7 +16,7 @@ use index::rows;
 use index::rows::Row;
 use insertion::Inserted;
 use insertion::Insertion;
-use insertion::Source;
+use put::Source;
 use regions::host;
 use regions::host::HostCursor;
 use regions::host::NextHost;

@@ -1,38 +1,18 @@
--- Laws of the bytes that a line loses, and of a heading's line, whose hashes and space start no link. Assumes nothing.
-use Prim.Native.Nat.{ℕ, zero, suc, _+_, _-_, _≤_, _<_}
+-- Laws of the bytes that a line loses. Assumes nothing.
+use Prim.Native.Nat.{ℕ, _+_, _≤_, _<_}
 use native.Mathlib.Nat.{sub-self}
 use native.Mathlib.Omega.{arith}
-use mathlib.Core.Path.{_≡_, refl, sym, ap, _∙_}
+use mathlib.Core.Path.{_≡_, ap, _∙_}
 use mathlib.Core.List.{List, [], _∷_, _++_, append-assoc}
-use lib.ListN.{length, drop, length-append, take-append-drop}
-use lib.Seq.{take-add, drop-drop}
+use lib.ListN.{length, drop, length-append}
 use Rattle.text.specs.Bytes.{part}
-use Rattle.text.specs.Pattern.{startsWith}
-use Rattle.text.proofs.BytesLaws.{drop-take, part-full}
-use Rattle.heading.specs.Level.{headingLine}
+use Rattle.text.proofs.BytesLaws.{part-full}
+use Rattle.put.proofs.PartLaws.{part-join, part-rest, part-drop}
 use Rattle.link.specs.Links.{relink, FoundLink}
 use Rattle.link.specs.Target.{anchorSelf}
 use Rattle.link.specs.declared.links.NextLink.the-variants.{Link, NoLink}
 use Rattle.insertion.specs.Parts.{linkedText, FoundCut}
 use Rattle.insertion.specs.declared.cut.Cut.the-variants.{Bytes, NoCut}
-
--- parts side by side
-pub part-join : (s : List ℕ) (i a e : ℕ) → i ≤ a → a ≤ e → part i a s ++ part a e s ≡ part i e s
-part-join s i a e h k =
-    let n : i + (a - i) ≡ a = omega arith in
-    let m : e - i ≡ (a - i) + (e - a) = omega arith in
-    rw m (sym (take-add (a - i) (e - a) (drop i s) ∙ rw (drop-drop (a - i) i s, n)))
-
-pub part-rest : (s : List ℕ) (i a : ℕ) → i ≤ a → part i a s ++ drop a s ≡ drop i s
-part-rest s i a h =
-    let n : i + (a - i) ≡ a = omega arith in
-    let d : drop a s ≡ drop (a - i) (drop i s) = sym (drop-drop (a - i) i s ∙ ap (λ (k : ℕ). drop k s) n) in
-    rw d (take-append-drop (a - i) (drop i s))
-
-pub part-drop : (s : List ℕ) (a e n : ℕ) → drop n (part a e s) ≡ part (a + n) e s
-part-drop s a e n =
-    let k : e - a - n ≡ e - (a + n) = omega arith in
-    drop-take (drop a s) n (e - a) ∙ rw (drop-drop n a s, k)
 
 -- a link takes bytes, since it can become any text
 pub link-long : (l : List ℕ) (i a e : ℕ) → FoundLink l i (Link a e) → i < e
@@ -41,11 +21,6 @@ link-long l i a e h =
     let d : e ≡ i → ⊥ =
     λ q. omega (arith, ap length (h .1 f), length-append (part i a l) (0 ∷ relink f (drop e l)), ap (λ (k : ℕ). length (relink f (drop k l))) q) in
     omega arith
-
-pub heading-linked : (f : List ℕ → List ℕ) (n : ℕ) (text : List ℕ) → relink f (headingLine n text) ≡ headingLine n [] ++ relink f text
-unfolding relink startsWith
-heading-linked f zero text = refl
-heading-linked f (suc n) text = ap (λ (x : List ℕ). 0x23 ∷ x) (heading-linked f n text)
 
 -- the bytes passed stay as they are
 pub record Passed (host dir l : List ℕ) (from i : ℕ) : Type 0 where

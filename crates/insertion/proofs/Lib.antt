@@ -1,4 +1,4 @@
 pub mod CutLaws
-pub mod PutLaws
+pub mod StartLaws
 pub mod LinkedLaws
 pub mod PlanLaws

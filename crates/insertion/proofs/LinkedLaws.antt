@@ -18,21 +18,22 @@ use Rattle.heading.specs.declared.level.Moved.the-variants.{To, Past}
 use Rattle.heading.specs.declared.walk.LineKind.{LineKind}
 use Rattle.heading.specs.declared.walk.LineKind.the-variants.{Quoted, Heading, Other}
 use Rattle.heading.specs.declared.walk.WalkState.{WalkState}
-use Rattle.heading.proofs.WalkLaws.{kind-within}
 use Rattle.heading.proofs.LevelLaws.{moved-level}
 use Rattle.link.specs.Links.{relink}
 use Rattle.link.specs.Target.{anchorSelf}
 use Rattle.shift.specs.Shift.{toldFrom, atLevel, movedLine}
-use Rattle.insertion.specs.Insertion.{sourceText}
-use Rattle.insertion.specs.Parts.{linkedText, linkedFrom, linkedLines, FoundCut, newTextAt, newTextOf, startOf, KindIn, FoundLine, partOf, Able, Written, Wrote}
-use Rattle.insertion.specs.declared.Source.{Source}
+use Rattle.put.specs.Put.{sourceText, partOf, Able, Written, Wrote}
+use Rattle.put.specs.NewText.{newTextAt, newTextOf, KindIn}
+use Rattle.insertion.specs.Parts.{linkedText, linkedFrom, linkedLines, FoundCut, startOf, FoundLine}
+use Rattle.put.specs.declared.Source.{Source}
 use Rattle.insertion.specs.declared.cut.Cut.the-variants.{Bytes, NoCut}
-use Rattle.insertion.specs.declared.put.Room.{Room}
-use Rattle.insertion.specs.declared.put.Put.{Put}
+use Rattle.put.specs.declared.Room.{Room}
+use Rattle.put.specs.declared.Put.{Put}
 use Rattle.insertion.specs.declared.line.LineStep.{LineStep}
-use Rattle.insertion.specs.declared.line.NewText.{NewText}
-use Rattle.insertion.proofs.PutLaws.{part-part, Reached, roomAt, reached-start, reached-next, reached-over, reached-last, reached-end, source-length, source-same, part-same, able-part, able-on}
-use Rattle.insertion.proofs.CutLaws.{heading-linked}
+use Rattle.put.specs.declared.line.NewText.{NewText}
+use Rattle.put.proofs.PartLaws.{part-part}
+use Rattle.put.proofs.NewTextLaws.{heading-linked, kind-in, TextIn, text-in}
+use Rattle.put.proofs.PutLaws.{Reached, roomAt, reached-start, reached-next, reached-over, reached-last, reached-end, source-length, source-same, part-same, able-part, able-on}
 
 -- a source without the bytes that go is put up to place i
 pub record Cutting (host dir : List ℕ) (source : Source) (room : Room) (c w v : List ℕ) (at i : ℕ) : Type 0 where
@@ -96,27 +97,6 @@ module _ (f : List ℕ → List ℕ) (z : ℤ) (s : List ℕ) (a e : ℕ) where
       go (To (suc m)) y = rw (part-part s a e p q (omega (arith, w))) (ap (λ (x : List ℕ). LF ∷ x) (heading-linked f (suc m) (part p q (part a e s))))
       go Past y = refl
   text-becomes Other w h = refl
-
-pub kind-in : (f : Fence) (comment : Bool) (l : List ℕ) (n : ℕ) → length l ≡ n → KindIn n (stepKind f comment l)
-kind-in f comment l n y = go (stepKind f comment l) refl
-  where
-    go : (k : LineKind) → stepKind f comment l ≡ k → KindIn n k
-    go Quoted q = tt
-    go (Heading m a e) q = let w = kind-within f comment l m a e q in (w .0 .1, (w .1 .0, omega (arith, w .1 .1)))
-    go Other q = tt
-
--- the text of a line stands in the line, and a heading's level is at most 6
-abbrev TextIn : ℕ → ℕ → NewText → Type 0
-TextIn a e r = (r .level ≤ 6) × ((a ≤ r .start) × ((r .start ≤ r .end) × (r .end ≤ e)))
-
-text-in : (z : ℤ) (a e : ℕ) (k : LineKind) → KindIn (e - a) k → a ≤ e → TextIn a e (newTextOf z a e k)
-text-in z a e Quoted w h = (omega arith, (omega arith, (h, omega arith)))
-text-in z a e (Heading n p q) w h = go (movedTo (pos n +ℤ z)) refl
-  where
-    go : (m : Moved) → movedTo (pos n +ℤ z) ≡ m → TextIn a e (newTextAt m a e p q)
-    go (To m) y = (moved-level (pos n +ℤ z) m y .1, (omega arith, (omega (arith, w), omega (arith, w))))
-    go Past y = (omega arith, (omega arith, (h, omega arith)))
-text-in z a e Other w h = (omega arith, (omega arith, (h, omega arith)))
 
 -- what stands before a line's text is put, and then its text
 module _ {source : Source} {room : Room} {c w : List ℕ} (able : Able source room c w) (host dir : List ℕ) (n a e : ℕ) where

@@ -26,15 +26,16 @@ use Rattle.shift.specs.declared.level.Shift.the-variants.{By, PastAt as Past}
 use Rattle.shift.proofs.EndsLaws.{lines-some}
 use Rattle.shift.proofs.ShiftLaws.{kinds-told, past-none, past-some}
 use Rattle.embedding.specs.Embed.{embedTold}
-use Rattle.insertion.specs.Insertion.{sourceText, joined, stopped, readInserted, insertedOf, Within}
-use Rattle.insertion.specs.Parts.{linkedLine, linkedLines, partOf, Written, Wrote}
+use Rattle.put.specs.Put.{sourceText, partOf, Written, Wrote}
+use Rattle.insertion.specs.Insertion.{joined, stopped, readInserted, insertedOf, Within}
+use Rattle.insertion.specs.Parts.{linkedLine, linkedLines}
 use Rattle.insertion.specs.Plans.{embedText, PlanOf, withinLimit}
 use Rattle.insertion.specs.declared.plan.Plan.the-variants.{Nothing, PastAt, Lines}
-use Rattle.insertion.specs.declared.Source.{Source}
-use Rattle.insertion.specs.declared.put.Put.{Put}
-use Rattle.insertion.specs.declared.put.Put.the-variants.{To as PutTo, Over}
-use Rattle.insertion.specs.declared.put.Room.{Room}
-use Rattle.insertion.proofs.PutLaws.{source-part}
+use Rattle.put.specs.declared.Source.{Source}
+use Rattle.put.specs.declared.Put.{Put}
+use Rattle.put.specs.declared.Put.the-variants.{To as PutTo, Over}
+use Rattle.put.specs.declared.Room.{Room}
+use Rattle.put.proofs.PutLaws.{source-part}
 
 -- lines embedded, by whether a heading goes past level 6
 module _ (host name : List ℕ) (target d : ℕ) (ls : List (List ℕ)) where

@@ -1,30 +1,16 @@
--- A text that is put behind the running text of its host: where it lies, and what comes of it. Assumes nothing: these are definitions.
+-- A text that is put behind the running text of its host: what comes of it. Assumes nothing: these are definitions.
 use Prim.Native.Nat.{ℕ, _≤_}
-use mathlib.Core.Bool.{Bool, true, false, cond}
+use mathlib.Core.Bool.{cond}
 use mathlib.Core.List.{List, _++_}
 use lib.ListN.{length, take}
 use lib.Dec.{leb}
 use Rattle.answer.specs.declared.Place.{Place}
 use Rattle.answer.specs.declared.Refusal.{Refusal}
 use Rattle.answer.specs.declared.Refusal.the-variants.{TextLimit}
-use Rattle.text.specs.Bytes.{part}
 use Rattle.text.specs.Lines.{led}
 use Rattle.walk.specs.Parts.{Part, good, flawed}
-use Rattle.insertion.specs.declared.Source.{Source}
 use Rattle.insertion.specs.declared.Inserted.{Inserted}
 use Rattle.insertion.specs.declared.Inserted.the-variants.{To, Refused}
-
--- the bytes of a source
-abbrev pub sourceText : Source → List ℕ → List ℕ → List ℕ
-sourceText s contents work = part (s .start) (s .end) (cond (s .work) work contents)
-
--- a source lies in its buffer, and one in the work buffer stands from the limit on; by the buffers' lengths
-abbrev pub Held : Bool → ℕ → ℕ → ℕ → ℕ → ℕ → Type 0
-Held true a e limit contents work = (limit ≤ a) × (e ≤ work)
-Held false a e limit contents work = e ≤ contents
-
-abbrev pub Inside : Source → ℕ → ℕ → ℕ → Type 0
-Inside s limit contents work = (s .start ≤ s .end) × Held (s .work) (s .start) (s .end) limit contents work
 
 -- the running text with what is embedded, or a refusal
 pub data Joined : Type 0 where

@@ -13,19 +13,19 @@ use Rattle.text.specs.Lines.{pieces}
 use Rattle.heading.specs.Walk.{walkBegin}
 use Rattle.path.specs.Path.{parentDir}
 use Rattle.walk.specs.Parts.{Part, good, flawed}
-use Rattle.shift.specs.Shift.{toldFrom, dropStart, dropEnd}
+use Rattle.shift.specs.Shift.{toldFrom, toldLines}
 use Rattle.embedding.specs.Embed.{embedTold}
 use Rattle.insertion.specs.Parts.{linkedLine}
 use Rattle.insertion.specs.declared.Inserted.{Inserted}
 use Rattle.insertion.specs.declared.Inserted.the-variants.{To, Refused}
-use Rattle.insertion.specs.declared.put.Put.{Put}
-use Rattle.insertion.specs.declared.put.Put.the-variants.{To as PutTo, Over}
+use Rattle.put.specs.declared.Put.{Put}
+use Rattle.put.specs.declared.Put.the-variants.{To as PutTo, Over}
 use Rattle.insertion.specs.declared.plan.Plan.{Plan}
 use Rattle.insertion.specs.declared.plan.Plan.the-variants.{Nothing, PastAt, Lines}
 
 -- a text embedded in a host, its blank ends dropped
 abbrev pub embedText : List ℕ → List ℕ → ℕ → ℕ → List ℕ → Part (List (List ℕ))
-embedText host name target d s = embedTold host name target d (toldFrom walkBegin (dropEnd (dropStart (pieces s))))
+embedText host name target d s = embedTold host name target d (toldLines (pieces s))
 
 -- no line; 16 at a line; or lines from a place up to another, under a shift
 abbrev pub PlanOf : List ℕ → ℕ → Plan → Type 0

@@ -3,29 +3,23 @@ ghost use mathlib.Core.Path.{_≡_};
 ghost use Prim.Native.Nat.{_≤_};
 ghost use lib.ListN.{length, take};
 ghost use Rattle.text.specs.Lines.{pieces};
-ghost use Rattle.heading.specs.Walk.{walkBegin};
-ghost use Rattle.shift.specs.Shift.{toldFrom, dropStart, dropEnd};
+ghost use Rattle.shift.specs.Shift.{toldLines};
 ghost use Rattle.embedding.specs.Embed.{embedTold};
-ghost use Rattle.insertion.specs.Insertion.{Inside, sourceText, readInserted, insertedOf, Within};
+ghost use Rattle.put.specs.Put.{Inside, sourceText};
+ghost use Rattle.insertion.specs.Insertion.{readInserted, insertedOf, Within};
 ghost use Rattle.insertion.specs.Plans.{pastLevel, withinLimit};
 use answer::Place;
 use answer::Refusal;
 use plan::Plan;
 use put::Put;
 use put::Room;
+use put::Source;
 
 pub mod cut;
 pub mod line;
 pub mod plan;
-pub mod put;
+pub mod putting;
 pub mod read;
-
-// A text that lies in the contents, or in the work buffer from the limit on.
-pub struct Source {
-    pub work: bool,
-    pub start: usize,
-    pub end: usize,
-}
 
 // What is embedded where: the opener's place, the target level, the file's number, the limit, and how long the running text is.
 pub struct Insertion {
@@ -69,22 +63,22 @@ pub fn insert(
     work: &mut [u8],
 ) -> Inserted
     requires { ⌜ Inside source (at .limit) (length (now contents)) (length (now work)) × ((at .len ≤ at .limit) × ((at .limit ≤ length (now work)) × ((1 ≤ at .target) × (at .target ≤ 7)))) ⌝ }
-    ensures { λ r. ⌜ readInserted r (now (work .exit)) ≡ insertedOf (at .limit) (take (at .len) (now (work .entry))) (at .opener) (embedTold (now (host .entry)) (now (name .entry)) (at .target) (at .number) (toldFrom walkBegin (dropEnd (dropStart (pieces (sourceText source (now (contents .entry)) (now (work .entry)))))))) ⌝ }
+    ensures { λ r. ⌜ readInserted r (now (work .exit)) ≡ insertedOf (at .limit) (take (at .len) (now (work .entry))) (at .opener) (embedTold (now (host .entry)) (now (name .entry)) (at .target) (at .number) (toldLines (pieces (sourceText source (now (contents .entry)) (now (work .entry)))))) ⌝ }
     ensures { λ r. ⌜ Within r (at .limit) ⌝ }
 {
     match read::plan_in(contents, work, source, at.target) {
         Plan::Nothing => Inserted::To(at.len),
         Plan::PastAt(line) => past_level(at.number, line),
         Plan::Lines { start, end, shift } => {
-            let lines = read::part_of(source, start, end);
+            let lines = put::part_of(source, start, end);
             let n = path::parent_dir(name);
             let room = Room {
                 at: at.len,
                 limit: at.limit,
             };
-            let put = put::put_lines(contents, lines, shift, &name[..n], host, room, work);
+            let got = putting::put_lines(contents, lines, shift, &name[..n], host, room, work);
             let opener = at.opener;
-            within_limit(put, opener)
+            within_limit(got, opener)
         }
     }
 }

@@ -1,12 +1,10 @@
 // A text that is read while the work buffer is written: only these functions look where it lies.
-ghost use mathlib.Core.Path.{_≡_};
-ghost use Prim.Native.Nat.{_+_, _-_, _≤_};
+ghost use Prim.Native.Nat.{_-_, _≤_};
 ghost use lib.ListN.{length};
 ghost use lib.Signed.{mag};
-ghost use Rattle.insertion.specs.Insertion.{Inside, sourceText};
-ghost use Rattle.insertion.specs.Parts.{FoundCut, FoundLine, partOf};
+ghost use Rattle.put.specs.Put.{Inside, sourceText};
+ghost use Rattle.insertion.specs.Parts.{FoundCut, FoundLine};
 ghost use Rattle.insertion.specs.Plans.{PlanOf};
-use crate::Source;
 use crate::cut;
 use crate::cut::Cut;
 use crate::line;
@@ -14,18 +12,7 @@ use crate::line::LineStep;
 use crate::plan;
 use crate::plan::Plan;
 use heading::walk::WalkState;
-
-// A part of a source.
-pub fn part_of(source: Source, a: usize, e: usize) -> Source
-    requires { ⌜ (a ≤ e) × (source .start + e ≤ source .end) ⌝ }
-    ensures { λ r. ⌜ r ≡ partOf source a e ⌝ }
-{
-    Source {
-        work: source.work,
-        start: source.start + a,
-        end: source.start + e,
-    }
-}
+use put::Source;
 
 // The line of a source that starts at a place.
 pub fn line_in(

@@ -6,12 +6,11 @@ use lib.ListN.{length, take}
 use lib.Seq.{length-take-le}
 use Rattle.heading.proofs.LevelLaws.{shift-kept}
 use Rattle.walk.specs.Parts.{Part}
-use Rattle.insertion.specs.Insertion.{sourceText}
-use Rattle.insertion.specs.Parts.{Able}
+use Rattle.put.specs.Put.{sourceText, Able}
 use Rattle.insertion.specs.Plans.{embedText}
 use Rattle.insertion.specs.declared.Insertion.{Insertion}
-use Rattle.insertion.specs.declared.put.Room.{Room}
-use Rattle.insertion.proofs.PutLaws.{able-part, source-length, inside-any}
+use Rattle.put.specs.declared.Room.{Room}
+use Rattle.put.proofs.PutLaws.{able-part, source-length, inside-any}
 use Rattle.insertion.proofs.PlanLaws.{joined-nothing, joined-stopped, joined-put, lines-put}
 use borrow.Author.Needs.{needs}
 use Rattle.insertion.proofs.insert.Statement.{statement}

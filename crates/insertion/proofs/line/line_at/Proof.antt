@@ -4,8 +4,8 @@ use Prim.Native.Nat.{_-_}
 use Rattle.text.specs.Bytes.{part}
 use Rattle.text.proofs.BytesLaws.{part-full}
 use Rattle.heading.proofs.LevelLaws.{shift-kept}
-use Rattle.insertion.specs.Parts.{newTextOf}
-use Rattle.insertion.proofs.LinkedLaws.{kind-in}
+use Rattle.put.specs.NewText.{newTextOf}
+use Rattle.put.proofs.NewTextLaws.{kind-in}
 use borrow.Author.Needs.{needs}
 use Rattle.insertion.proofs.line.line_at.Statement.{statement}
 use Rattle.insertion.proofs.line.line_at.Tie as tie

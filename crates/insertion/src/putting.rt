@@ -1,40 +1,17 @@
-// What is put at a place of the work buffer, within the limit.
-ghost use mathlib.Core.List.{[], _++_};
+// The lines of a source as they become, put behind the running text.
+ghost use mathlib.Core.List.{_++_};
 ghost use Prim.Native.Nat.{_+_, _≤_};
 ghost use lib.ListN.{length};
 ghost use lib.Signed.{mag};
 ghost use Rattle.text.specs.Bytes.{part};
-ghost use Rattle.heading.specs.Level.{headingLine};
-ghost use Rattle.insertion.specs.Insertion.{sourceText};
-ghost use Rattle.insertion.specs.Parts.{Able, Wrote, startOf, linkedText, linkedLines};
-use crate::Source;
+ghost use Rattle.put.specs.Put.{sourceText, Able, Wrote};
+ghost use Rattle.insertion.specs.Parts.{startOf, linkedText, linkedLines};
 use crate::cut::Cut;
-use crate::line::NewText;
 use crate::read;
-use heading::level;
-
-// A place of the work buffer, and the limit.
-pub struct Room {
-    pub at: usize,
-    pub limit: usize,
-}
-
-// The place after what was put, or that it went over the limit.
-pub enum Put {
-    To(usize),
-    Over,
-}
-
-// A heading's hashes and the space behind them.
-fn put_hashes(level: usize, room: Room, work: &mut [u8]) -> Put
-    requires { ⌜ (level ≤ 6) × ((room .at ≤ room .limit) × (room .limit ≤ length (now work))) ⌝ }
-    ensures { λ r. ⌜ Wrote room (headingLine level []) (now (work .entry)) (now (work .exit)) r ⌝ }
-{
-    if room.limit - room.at < level + 1 {
-        return Put::Over;
-    }
-    Put::To(level::put_heading(work, room.at, level, b""))
-}
+use put::Put;
+use put::Room;
+use put::Source;
+use put::line::NewText;
 
 // What stands before a line's text: an LF, and a heading's hashes and space.
 fn put_start(level: usize, room: Room, work: &mut [u8]) -> Put
@@ -50,23 +27,7 @@ fn put_start(level: usize, room: Room, work: &mut [u8]) -> Put
     if level == 0 {
         return Put::To(at + 1);
     }
-    put_hashes(level, Room { at: at + 1, limit }, work)
-}
-
-// A part of a source as it is.
-fn put_part(contents: &[u8], source: Source, a: usize, e: usize, room: Room, work: &mut [u8]) -> Put
-    requires { ⌜ Able source room (now contents) (now work) × ((a ≤ e) × (source .start + e ≤ source .end)) ⌝ }
-    ensures { λ r. ⌜ Wrote room (part a e (sourceText source (now (contents .entry)) (now (work .entry)))) (now (work .entry)) (now (work .exit)) r ⌝ }
-{
-    if room.limit - room.at < e - a {
-        return Put::Over;
-    }
-    let from = source.start + a;
-    let to = source.start + e;
-    if source.work {
-        return Put::To(buffer::copy_down(work, from, to, room.at));
-    }
-    Put::To(buffer::copy(&contents[from..to], work, room.at))
+    put::put_hashes(level, Room { at: at + 1, limit }, work)
 }
 
 // A source without the bytes that go.
@@ -87,7 +48,7 @@ fn put_cuts(
     loop {
         let Cut::Bytes { start, end, next } = read::cut_in(contents, work, source, i, dir, host)
         else {
-            return put_part(
+            return put::put_part(
                 contents,
                 source,
                 i,
@@ -96,10 +57,11 @@ fn put_cuts(
                 work,
             );
         };
-        let Put::To(m) = put_part(contents, source, i, start, Room { at, limit }, work) else {
+        let Put::To(m) = put::put_part(contents, source, i, start, Room { at, limit }, work) else {
             return Put::Over;
         };
-        let Put::To(n) = put_part(contents, source, end, next, Room { at: m, limit }, work) else {
+        let Put::To(n) = put::put_part(contents, source, end, next, Room { at: m, limit }, work)
+        else {
             return Put::Over;
         };
         at = n;
@@ -124,7 +86,7 @@ fn put_line(
     let Put::To(at) = put_start(new.level, room, work) else {
         return Put::Over;
     };
-    let text = read::part_of(source, new.start, new.end);
+    let text = put::part_of(source, new.start, new.end);
     put_cuts(contents, text, dir, host, Room { at, limit }, work)
 }
 

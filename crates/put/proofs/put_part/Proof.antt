@@ -1,11 +1,11 @@
--- `insertion::put::put_part` meets its contract: the part is copied from where the source lies. Assumes nothing.
+-- `put::put_part` meets its contract: the part is copied from where the source lies. Assumes nothing.
 use Prim.Native.Nat.{_+_, _-_}
 use native.Mathlib.Omega.{arith}
 use Rattle.text.proofs.BytesLaws.{part-full}
-use Rattle.insertion.proofs.PutLaws.{put-over, put-copied}
+use Rattle.put.proofs.PutLaws.{put-over, put-copied}
 use borrow.Author.Needs.{needs}
-use Rattle.insertion.proofs.put.put_part.Statement.{statement}
-use Rattle.insertion.proofs.put.put_part.Tie as tie
+use Rattle.put.proofs.put_part.Statement.{statement}
+use Rattle.put.proofs.put_part.Tie as tie
 
 sub-if1 : tie.Need-sub-if1
 sub-if1 c = search needs

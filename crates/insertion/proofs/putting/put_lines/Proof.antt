@@ -1,14 +1,14 @@
--- `insertion::put::put_lines` meets its contract. The invariant: the lines before place a are put. Assumes nothing.
+-- `insertion::putting::put_lines` meets its contract. The invariant: the lines before place a are put. Assumes nothing.
 use Prim.Native.Nat.{_-_}
 use native.Mathlib.Omega.{arith}
 use mir.Syntax.{w32}
 use mir.Val.{toZ}
 use borrow.Author.Needs.{needs}
 use Rattle.heading.proofs.LevelLaws.{shift-kept}
-use Rattle.insertion.proofs.PutLaws.{reached-length, able-on, able-read}
+use Rattle.put.proofs.PutLaws.{reached-length, able-on, able-read}
 use Rattle.insertion.proofs.LinkedLaws.{Putting, putting-start, line-before, text-level, text-order, text-end, line-over, lines-end, lines-on}
-use Rattle.insertion.proofs.put.put_lines.Statement.{statement}
-use Rattle.insertion.proofs.put.put_lines.Tie as tie
+use Rattle.insertion.proofs.putting.put_lines.Statement.{statement}
+use Rattle.insertion.proofs.putting.put_lines.Tie as tie
 
 abbrev Inv-loop : tie.InvT-loop
 Inv-loop contents source shift dir host work₀ limit at₀ a₀ state₀ work at a state = Putting host dir (toZ w32 shift) source (record { at = at₀; limit = limit }) contents work₀ work at a state

@@ -1,9 +1,9 @@
--- `insertion::put::put_hashes` meets its contract. Assumes nothing.
+-- `put::put_hashes` meets its contract. Assumes nothing.
 use native.Mathlib.Omega.{arith}
-use Rattle.insertion.proofs.PutLaws.{hashes-length}
+use Rattle.put.proofs.PutLaws.{hashes-length}
 use borrow.Author.Needs.{needs}
-use Rattle.insertion.proofs.put.put_hashes.Statement.{statement}
-use Rattle.insertion.proofs.put.put_hashes.Tie as tie
+use Rattle.put.proofs.put_hashes.Statement.{statement}
+use Rattle.put.proofs.put_hashes.Tie as tie
 
 sub-if1 : tie.Need-sub-if1
 sub-if1 c = search needs

@@ -1,4 +1,4 @@
--- `insertion::line::new_text` meets its contract. Assumes nothing.
+-- `put::line::new_text` meets its contract. Assumes nothing.
 use Prim.Native.Nat.{ℕ}
 use mathlib.Core.Path.{_≡_, refl, sym, _∙_}
 use mathlib.Core.List.{[], _∷_}
@@ -10,10 +10,10 @@ use Rattle.heading.specs.declared.walk.LineKind.{LineKind}
 use Rattle.heading.specs.declared.walk.LineKind.the-variants.{Quoted, Heading, Other}
 use Rattle.heading.proofs.walk.LineKind.{the-type}
 use Rattle.heading.proofs.LevelLaws.{shift-kept}
-use Rattle.insertion.specs.Parts.{newTextOf}
+use Rattle.put.specs.NewText.{newTextOf}
 use borrow.Author.Needs.{needs}
-use Rattle.insertion.proofs.line.new_text.Statement.{statement}
-use Rattle.insertion.proofs.line.new_text.Tie as tie
+use Rattle.put.proofs.line.new_text.Statement.{statement}
+use Rattle.put.proofs.line.new_text.Tie as tie
 
 no-heading : (z : ℤ) (a e : ℕ) (k : LineKind) → OneOf (0 ∷ 2 ∷ []) (tagOf the-type k) → newTextOf z a e k ≡ record { level = 0; start = a; end = e }
 no-heading z a e Quoted h = refl

@@ -5,18 +5,17 @@ use mathlib.Core.Path.{_≡_, refl, sym, ap, _∙_}
 use mathlib.Core.Bool.{Bool, true, false, cond}
 use mathlib.Core.List.{List, [], _∷_, _++_, append-assoc, append-nil}
 use lib.ListN.{length, drop, set, replicate, length-append, length-replicate}
-use lib.Seq.{sets, length-sets, drop-set-lt, drop-drop, take-take}
+use lib.Seq.{sets, length-sets, drop-set-lt, drop-drop}
 use Rattle.text.specs.Bytes.{part}
-use Rattle.text.specs.Lines.{LF}
-use Rattle.text.proofs.BytesLaws.{drop-take, part-full}
+use Rattle.text.proofs.BytesLaws.{part-full}
+use Rattle.put.proofs.PartLaws.{part-part}
 use Rattle.buffer.proofs.BufferLaws.{sets-append}
 use Rattle.heading.specs.Level.{headingLine}
-use Rattle.insertion.specs.Insertion.{sourceText, Held, Inside}
-use Rattle.insertion.specs.Parts.{partOf, Able, startOf, Written, Wrote}
-use Rattle.insertion.specs.declared.Source.{Source}
-use Rattle.insertion.specs.declared.put.Room.{Room}
-use Rattle.insertion.specs.declared.put.Put.{Put}
-use Rattle.insertion.specs.declared.put.Put.the-variants.{To, Over}
+use Rattle.put.specs.Put.{sourceText, Held, Inside, partOf, Able, Written, Wrote}
+use Rattle.put.specs.declared.Source.{Source}
+use Rattle.put.specs.declared.Room.{Room}
+use Rattle.put.specs.declared.Put.{Put}
+use Rattle.put.specs.declared.Put.the-variants.{To, Over}
 
 -- what stands behind the bytes put stays
 drop-behind : (x w : List ℕ) (at n : ℕ) → at + length x ≤ n → drop n (sets w at x) ≡ drop n w
@@ -98,12 +97,6 @@ held-same true a e limit c w v h q =
     rw (← k, ← drop-drop (a - limit) limit v, ← drop-drop (a - limit) limit w, q)
 held-same false a e limit c w v h q = refl
 
--- a part of a part
-pub part-part : (l : List ℕ) (s t a e : ℕ) → s + e ≤ t → part (s + a) (s + e) l ≡ part a e (part s t l)
-part-part l s t a e h =
-    let k : s + e - (s + a) ≡ e - a = omega arith in
-    rw (drop-take (drop s l) a (t - s), take-take (e - a) (t - s - a) (drop a (drop s l)) (omega arith), drop-drop a s l, k)
-
 pub source-part : (source : Source) (c w : List ℕ) (a e : ℕ) → source .start + e ≤ source .end → sourceText (partOf source a e) c w ≡ part a e (sourceText source c w)
 source-part source c w a e h = part-part (cond (source .work) w c) (source .start) (source .end) a e h
 
@@ -147,18 +140,3 @@ module _ {source : Source} {room : Room} {c w : List ℕ} (able : Able source ro
   pub put-copied : (v : List ℕ) (n : ℕ) → e - a ≤ room .limit - room .at → v ≡ sets w (room .at) (part (source .start + a) (source .start + e) (cond (source .work) w c))
       → n ≡ room .at + (e - a) → Written room (part a e (sourceText source c w)) w v n
   put-copied v n h q k = record { place = omega (arith, part-long); below = omega (arith, able .below); wrote = q ∙ ap (sets w (room .at)) (source-part source c w a e within) }
-
--- what stands before a line's text: the LF, and then the hashes
-pub start-long : (n : ℕ) → 0 < length (startOf n)
-start-long zero = omega arith
-start-long (suc n) = omega arith
-
-pub start-none : (room : Room) (w : List ℕ) (n : ℕ) → n ≡ 0 → room .at < room .limit → Written room (startOf n) w (set w (room .at) LF) (room .at + 1)
-start-none room w n e h = rw e record { place = omega arith; below = omega arith; wrote = refl }
-
-pub start-some : (room : Room) (w : List ℕ) (n : ℕ) (v : List ℕ) (r : Put) → (n ≡ 0 → ⊥) → room .at < room .limit
-    → Wrote (roomAt room (room .at + 1)) (headingLine n []) (set w (room .at) LF) v r → Wrote room (startOf n) w v r
-start-some room w zero v r e h q = absurd (e refl)
-start-some room w (suc n) v r e h q =
-    let p = reached-start room (startOf (suc n)) w (omega arith) in
-    reached-last (reached-next p (LF ∷ []) (headingLine (suc n) []) refl (set w (room .at) LF) (room .at + 1) record { place = omega arith; below = omega arith; wrote = refl }) v r q

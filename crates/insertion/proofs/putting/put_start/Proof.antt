@@ -1,10 +1,10 @@
--- `insertion::put::put_start` meets its contract. Assumes nothing.
+-- `insertion::putting::put_start` meets its contract. Assumes nothing.
 use native.Mathlib.Omega.{arith}
 use lib.ListN.{length-set}
-use Rattle.insertion.proofs.PutLaws.{start-long, start-none, start-some}
+use Rattle.insertion.proofs.StartLaws.{start-long, start-none, start-some}
 use borrow.Author.Needs.{needs}
-use Rattle.insertion.proofs.put.put_start.Statement.{statement}
-use Rattle.insertion.proofs.put.put_start.Tie as tie
+use Rattle.insertion.proofs.putting.put_start.Statement.{statement}
+use Rattle.insertion.proofs.putting.put_start.Tie as tie
 
 returns : tie.Need-returns
 returns c = omega (arith, start-long (c .before .before .args .level))

@@ -1,11 +1,11 @@
--- `insertion::put::put_cuts` meets its contract. The invariant: the source without the bytes that go is put up to place i. Assumes nothing.
+-- `insertion::putting::put_cuts` meets its contract. The invariant: the source without the bytes that go is put up to place i. Assumes nothing.
 use Prim.Native.Nat.{_-_}
 use native.Mathlib.Omega.{arith}
 use borrow.Author.Needs.{needs}
-use Rattle.insertion.proofs.PutLaws.{reached-length, able-on, able-read}
+use Rattle.put.proofs.PutLaws.{reached-length, able-on, able-read}
 use Rattle.insertion.proofs.LinkedLaws.{Cutting, cutting-start, cutting-end, cut-bounds, cut-over, cut-able, cut-after-over, cutting-on}
-use Rattle.insertion.proofs.put.put_cuts.Statement.{statement}
-use Rattle.insertion.proofs.put.put_cuts.Tie as tie
+use Rattle.insertion.proofs.putting.put_cuts.Statement.{statement}
+use Rattle.insertion.proofs.putting.put_cuts.Tie as tie
 
 abbrev Inv-loop : tie.InvT-loop
 Inv-loop contents source dir host work₀ limit at₀ i₀ work at i = Cutting host dir source (record { at = at₀; limit = limit }) contents work₀ work at i

@@ -1,8 +1,8 @@
--- `insertion::put::put_line` meets its contract. Assumes nothing.
+-- `insertion::putting::put_line` meets its contract. Assumes nothing.
 use Rattle.insertion.proofs.LinkedLaws.{start-over, text-able, text-put}
 use borrow.Author.Needs.{needs}
-use Rattle.insertion.proofs.put.put_line.Statement.{statement}
-use Rattle.insertion.proofs.put.put_line.Tie as tie
+use Rattle.insertion.proofs.putting.put_line.Statement.{statement}
+use Rattle.insertion.proofs.putting.put_line.Tie as tie
 
 put-start-requires : tie.Need-put-start-requires
 put-start-requires c κs = search needs
