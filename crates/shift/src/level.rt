@@ -20,9 +20,9 @@ pub enum Shift {
 }
 
 // The shallowest level of headings, and the deepest, 0 where there is none.
-struct Levels {
-    top: TopLevel,
-    deepest: usize,
+pub struct Levels {
+    pub top: TopLevel,
+    pub deepest: usize,
 }
 
 fn deeper(found: usize, kind: LineKind) -> usize
@@ -45,7 +45,7 @@ fn deeper(found: usize, kind: LineKind) -> usize
 }
 
 // The levels found before a line, with that line.
-fn with_line(found: Levels, kind: LineKind) -> Levels
+pub fn with_line(found: Levels, kind: LineKind) -> Levels
     ensures { λ r. ⌜ (r .top ≡ shallower (found .top) kind) × (r .deepest ≡ deeperOf (found .deepest) kind) ⌝ }
 {
     let top = found.top;
@@ -80,7 +80,7 @@ fn levels_of(s: &[u8]) -> Levels
 }
 
 // Whether a shift takes a level past 1 to 6.
-fn is_past(level: usize, shift: i32) -> bool
+pub fn is_past(level: usize, shift: i32) -> bool
     requires { ⌜ (level ≤ 7) × (mag shift ≤ 7) ⌝ }
     ensures { λ r. ⌜ r ≡ isPast (movedTo (pos level +ℤ shift)) ⌝ }
 {
@@ -91,7 +91,7 @@ fn is_past(level: usize, shift: i32) -> bool
 }
 
 // Whether a shift takes a line's heading past them.
-fn goes_past(kind: LineKind, shift: i32) -> bool
+pub fn goes_past(kind: LineKind, shift: i32) -> bool
     requires { ⌜ HasLevel kind × (mag shift ≤ 7) ⌝ }
     ensures { λ r. ⌜ r ≡ goesPast shift kind ⌝ }
 {

@@ -1,0 +1,3 @@
+pub mod Member
+pub mod Lines
+pub mod Outline
