@@ -79,6 +79,7 @@ preparedFrom index contents work set i (suc n) = preparedIn index contents work 
 pub record Lies (index contents limit stop : ℕ) (m : Member) : Type 0 where
   pub forward : m .name .start ≤ m .name .end
   pub named : m .name .end ≤ index
+  pub short : m .name .end - m .name .start ≤ 255
   pub first : 1 ≤ m .file
   pub last : m .file ≤ 64
   pub inside : Inside (m .source) limit contents stop

@@ -1,0 +1,55 @@
+-- The table of marks, which spares comparisons, and what the functions find. Nothing here is document 01's: functions promise it.
+use Prim.Native.Nat.{ℕ, zero, suc, _+_, _*_, _≤_, _<_, _/_, _%_}
+use mathlib.Core.Path.{_≡_}
+use mathlib.Core.Bool.{Bool, true, false}
+use mathlib.Core.List.{List, [], _∷_}
+use lib.ListN.{length, take, getD}
+use Rattle.answer.specs.declared.Refusal.{Refusal}
+use Rattle.answer.specs.declared.Refusal.the-variants.{SharedAnchor}
+use Rattle.text.specs.Bytes.{part}
+use Rattle.anchor.specs.Anchor.{slug, anchorNumber}
+use Rattle.heading.specs.declared.walk.LineKind.{LineKind}
+use Rattle.heading.specs.declared.walk.LineKind.the-variants.{Quoted, Heading, Other}
+use Rattle.shift.specs.Shift.{Told}
+use Rattle.member.specs.Member.{Prepared}
+use Rattle.shared.specs.declared.Shared.{Shared}
+use Rattle.shared.specs.declared.Shared.the-variants.{Nowhere, At}
+
+-- 255 stands where several files have a mark
+abbrev pub MANY : ℕ
+MANY = 255
+
+-- a place of the table tells of a file
+abbrev pub Holds : List ℕ → ℕ → ℕ → Type 0
+Holds table p file = (getD table p 0 ≡ MANY) ⊎ (getD table p 0 ≡ file)
+
+-- so do both places of a number
+pub record Marked (table : List ℕ) (number file : ℕ) : Type 0 where
+  pub one : Holds table (number % length table) file
+  pub two : Holds table (number / length table % length table) file
+
+-- what marking a number leaves: what the table told it tells still; it tells of the file; and where the answer is false it told of no other file there
+pub record Marks (table after : List ℕ) (number file : ℕ) (maybe : Bool) : Type 0 where
+  pub long : length after ≡ length table
+  pub still : (n f : ℕ) → 1 ≤ f → Marked table n f → Marked after n f
+  pub own : Marked after number file
+  pub alone : maybe ≡ false → (f : ℕ) → 1 ≤ f → f ≤ 64 → Marked table number f → f ≡ file
+
+-- the table tells of each heading of lines, and of members
+abbrev pub TellsKind : List ℕ → ℕ → LineKind → List ℕ → Type 0
+TellsKind table file Quoted l = Unit {0}
+TellsKind table file (Heading n b e) l = Marked table (anchorNumber (slug (part b e l))) file
+TellsKind table file Other l = Unit {0}
+
+unfoldable pub TellsLines : List ℕ → ℕ → List Told → Type 0
+TellsLines table file [] = Unit {0}
+TellsLines table file (t ∷ ts) = TellsKind table file (t .kind) (t .bytes) × TellsLines table file ts
+
+unfoldable pub Tells : List ℕ → List Prepared → Type 0
+Tells table [] = Unit {0}
+Tells table (q ∷ qs) = TellsLines table (q .file) (q .lines) × Tells table qs
+
+-- the first of refusals, or none
+abbrev pub SharedOf : List Refusal → Shared → Type 0
+SharedOf xs Nowhere = xs ≡ []
+SharedOf xs (At p q) = (ys : List Refusal) × (xs ≡ SharedAnchor p q ∷ ys)
