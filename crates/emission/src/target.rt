@@ -1,0 +1,97 @@
+// What a link's target becomes: the anchor of a member's title, a kept fragment, or the path at the repository.
+ghost use mathlib.Core.List.{_∷_, _++_};
+ghost use mathlib.Core.Path.{_≡_};
+ghost use Prim.Native.Nat.{_+_, _-_, _≤_, _<_};
+ghost use lib.ListN.{length, take, drop};
+ghost use Rattle.text.specs.Pattern.{bytes};
+ghost use Rattle.anchor.specs.Anchor.{slug};
+ghost use Rattle.path.specs.Path.{resolve};
+ghost use Rattle.link.specs.Target.{trimSlashes, outside, placed, rewriteTarget};
+ghost use Rattle.put.specs.Put.{sourceText, Able, Wrote};
+ghost use Rattle.members.specs.Members.{AllStand};
+ghost use Rattle.emission.specs.Emission.{titlesIn, FoundMember};
+use crate::read;
+use anchor::AnchorByte;
+use link::target;
+use link::target::Target;
+use path::Resolved;
+use put::Put;
+use put::Room;
+use put::Source;
+use text::pattern;
+use text::pattern::Found;
+
+// The last member of a name.
+fn find_member(index: &[u8], set: &[usize; 704], count: usize, name: &[u8]) -> Found
+    requires { ⌜ AllStand (now index) contents limit stop (now set) count ⌝ }
+    ensures { λ r. ⌜ FoundMember (now (index .entry)) (now (set .entry)) count (now (name .entry)) r ⌝ }
+{
+    let mut k = count;
+    while 0 < k {
+        k -= 1;
+        let m = members::member_at(set, k);
+        let other = m.name;
+        let a = other.start;
+        let e = other.end;
+        if pattern::equals(&index[a..e], name) {
+            return Found::At(k);
+        }
+    }
+    Found::Nothing
+}
+
+// `#` and the anchor of a title.
+fn put_anchor(contents: &[u8], title: Source, room: Room, work: &mut [u8]) -> Put
+    requires { ⌜ Able title room (now contents) (now work) ⌝ }
+    ensures { λ r. ⌜ Wrote room (0x23 ∷ slug (sourceText title (now (contents .entry)) (now (work .entry)))) (now (work .entry)) (now (work .exit)) r ⌝ }
+{
+    let limit = room.limit;
+    let mut at = room.at;
+    let mut b = b'#';
+    let mut c = read::anchor_in(contents, work, title);
+    loop {
+        if at == limit {
+            return Put::Over;
+        }
+        work[at] = b;
+        at += 1;
+        let AnchorByte::Byte(next, behind) = read::byte_in(contents, work, title, c) else {
+            return Put::To(at);
+        };
+        b = next;
+        c = behind;
+    }
+}
+
+// The repository's URL up to the path.
+fn put_root(url: &[u8], room: Room, work: &mut [u8]) -> Put
+    requires { ⌜ (room .at ≤ room .limit) × (room .limit ≤ length (now work)) ⌝ }
+    ensures { λ r. ⌜ Wrote room (trimSlashes (now (url .entry)) ++ bytes "/blob/main/") (now (work .entry)) (now (work .exit)) r ⌝ }
+{
+    let limit = room.limit;
+    let n = target::url_length(url);
+    let Put::To(at) = put::put_bytes(&url[..n], room, work) else {
+        return Put::Over;
+    };
+    put::put_bytes(b"/blob/main/", Room { at, limit }, work)
+}
+
+// A path in a directory, once it is resolved, however long it is.
+fn put_path(contents: &[u8], path: Source, dir: &[u8], room: Room, work: &mut [u8]) -> Put
+    requires { ⌜ Able path room (now contents) (now work) ⌝ }
+    ensures { λ r. ⌜ Wrote room (resolve (now (dir .entry)) (sourceText path (now (contents .entry)) (now (work .entry)))) (now (work .entry)) (now (work .exit)) r ⌝ }
+{
+    let n = read::length_in(contents, work, path, dir);
+    if room.limit - room.at < n {
+        return Put::Over;
+    }
+    let end = room.at + n;
+    let a = path.start;
+    let e = path.end;
+    if path.work {
+        path::put_resolved_down(work, a, e, dir, end);
+        return Put::To(end);
+    }
+    path::put_resolved(&contents[a..e], dir, end, work);
+    Put::To(end)
+}
