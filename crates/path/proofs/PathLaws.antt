@@ -18,7 +18,7 @@ use Rattle.text.specs.declared.pattern.Found.{Found}
 use Rattle.text.specs.declared.pattern.Found.the-variants.{At, Nothing}
 use Rattle.text.proofs.PatternLaws.{ends-append, ends-not, equals-not}
 use Rattle.text.proofs.BytesLaws.{drop-take, part-length, part-full, or-left}
-use Rattle.buffer.proofs.BufferLaws.{sets-before}
+use Rattle.buffer.proofs.BufferLaws.{sets-before, drop-sets}
 use Rattle.text.proofs.SplitLaws.{split-back, split-whole}
 use Rattle.path.specs.Path.{SLASH, base, goes, isUp, step, walked, resolve}
 use Rattle.path.specs.Backward.{put, Tail, tail, dropped, before, tailOf, partsLeft, Back, rest, weight, holder, piece, cursor, fromEnd, Within, inDir, LastKept, LastPart, lengthened, closed, Closed, FoundPart}
@@ -267,6 +267,10 @@ holder-length : (dir path : List ℕ) (i : Bool) → length (holder dir path i) 
 holder-length dir path true = omega arith
 holder-length dir path false = omega arith
 
+holder-most : (dir path : List ℕ) (i : Bool) (n : ℕ) → length dir ≤ n → length path ≤ n → length (holder dir path i) ≤ n
+holder-most dir path true n h k = h
+holder-most dir path false n h k = k
+
 -- a cursor has passed the parts that make up a text of n bytes
 pub record Measured (dir path : List ℕ) (n : ℕ) (c : PathCursor) : Type 0 where
   pub made : List ℕ
@@ -318,6 +322,14 @@ module _ {dir path : List ℕ} {end : ℕ} {out₀ out : List ℕ} {at : ℕ} {c
       let k : at ≡ end - length (resolve dir path) = omega (arith, w .place, ap length q) in
       w .wrote ∙ ap (sets out₀ at) q ∙ ap (λ (n : ℕ). sets out₀ n (resolve dir path)) k
 
+  pub written-end : end ≡ length out₀ → LastPart dir path c Root → (at ≤ length out) × (drop at out ≡ resolve dir path)
+  written-end e h =
+      let t : List ℕ = w .made in (
+        omega (arith, w .place, written-length),
+        ap (drop at) (w .wrote) ∙ drop-sets out₀ t at end (w .place) (omega arith)
+            ∙ rw (e, drop-length out₀, append-nil t) (reached-root (w .reached) h),
+      )
+
   module _ {b : PathCursor} {e : ℕ} (h : LastKept dir path c b e) where
     now-put : closed at end (piece dir path b e) ++ w .made ≡ put (piece dir path b e) (w .made)
     now-put = closed-put (piece dir path b e) (w .made) at end (w .place)
@@ -327,6 +339,23 @@ module _ {dir path : List ℕ} {end : ℕ} {out₀ out : List ℕ} {at : ℕ} {c
 
     pub written-fits : length (resolve dir path) ≤ end → length (closed at end (piece dir path b e)) ≤ at
     written-fits f = omega (arith, w .place, now-length, reached-fits (w .reached) h)
+
+    pub written-small : (n : ℕ) → length dir ≤ n → length path ≤ n → e - b .left ≤ n
+    written-small n k l = omega (arith, h .bounded .1, holder-most dir path (b .inside) n k l)
+
+    now-long : lengthened (end - at) (e - b .left) ≡ length (put (piece dir path b e) (w .made))
+    now-long =
+        let k : e - b .left ≡ length (piece dir path b e) = sym (part-full (holder dir path (b .inside)) (b .left) e (h .bounded .1)) in
+        let n : end - at ≡ length (w .made) = omega (arith, w .place) in
+        ap (lengthened (end - at)) k
+        ∙ ap (λ (m : ℕ). lengthened m (length (piece dir path b e))) n
+        ∙ lengthened-put (piece dir path b e) (w .made)
+
+    pub written-room : lengthened (end - at) (e - b .left) ≤ end → length (closed at end (piece dir path b e)) ≤ at
+    written-room f = omega (arith, w .place, now-length, now-long)
+
+    pub written-long : end < lengthened (end - at) (e - b .left) → end < length (resolve dir path)
+    written-long f = omega (arith, now-long, reached-fits (w .reached) h)
 
     pub written-on : (out₁ : List ℕ) (a : ℕ) → Closed (piece dir path b e) at end out a out₁ → Written dir path end out₀ out₁ a b
     written-on out₁ a k =

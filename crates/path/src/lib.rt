@@ -5,7 +5,7 @@ ghost use Prim.Native.Nat.{suc, _+_, _-_, _≤_, _<_};
 ghost use lib.ListN.{length, take};
 ghost use lib.Seq.{sets};
 ghost use Rattle.text.specs.Pattern.{equals as equalsTo};
-ghost use Rattle.path.specs.Path.{parentDir, resolve, goes};
+ghost use Rattle.path.specs.Path.{parentDir, resolve, goes, Resolves};
 ghost use Rattle.path.specs.Backward.{Back, LastPart, Within, inDir, fromEnd, lengthened, closed, Closed, Bounded, piece, FoundPart};
 use text::bytes;
 use text::pattern;
@@ -28,6 +28,12 @@ pub struct PathCursor {
 pub enum PathPart {
     Part { before: PathCursor, end: usize },
     Root,
+}
+
+// Where a resolved path starts in a buffer at whose end it stands; or that it is longer than the buffer.
+pub enum Resolved {
+    From(usize),
+    Long,
 }
 
 // How long the directory of a file is.
@@ -201,6 +207,25 @@ pub fn put_resolved(path: &[u8], dir: &[u8], end: usize, out: &mut [u8])
         let PathPart::Part { before, end: e } = last_part(path, dir, c) else {
             return;
         };
+        at = put_kept(path, dir, before, e, at, end, out);
+        c = before;
+    }
+}
+
+// Writes a path in a directory, once it is resolved, so that it ends at a buffer's end, where the buffer holds it.
+pub fn resolve_into(path: &[u8], dir: &[u8], out: &mut [u8]) -> Resolved
+    ensures { λ r. ⌜ Resolves (now (dir .entry)) (now (path .entry)) (now (out .exit)) r ⌝ }
+{
+    let end = out.len();
+    let mut at = end;
+    let mut c = from_end(path);
+    loop {
+        let PathPart::Part { before, end: e } = last_part(path, dir, c) else {
+            return Resolved::From(at);
+        };
+        if end < lengthen(end - at, e - before.left) {
+            return Resolved::Long;
+        }
         at = put_kept(path, dir, before, e, at, end, out);
         c = before;
     }
