@@ -2,10 +2,12 @@
 // buffer is needed.
 ghost use mathlib.Core.Path.{_≡_};
 ghost use Prim.Native.Nat.{suc, _+_, _-_, _≤_, _<_};
-ghost use lib.ListN.{length, take};
+ghost use mathlib.Core.List.{[]};
+ghost use lib.ListN.{length, take, drop};
 ghost use lib.Seq.{sets};
+ghost use Rattle.text.specs.Bytes.{part};
 ghost use Rattle.text.specs.Pattern.{equals as equalsTo};
-ghost use Rattle.path.specs.Path.{parentDir, resolve, goes};
+ghost use Rattle.path.specs.Path.{parentDir, resolve, goes, Resolves};
 ghost use Rattle.path.specs.Backward.{Back, LastPart, Within, inDir, fromEnd, lengthened, closed, Closed, Bounded, piece, FoundPart};
 use text::bytes;
 use text::pattern;
@@ -28,6 +30,12 @@ pub struct PathCursor {
 pub enum PathPart {
     Part { before: PathCursor, end: usize },
     Root,
+}
+
+// Where a resolved path starts in a buffer at whose end it stands; or that it is longer than the buffer.
+pub enum Resolved {
+    From(usize),
+    Long,
 }
 
 // How long the directory of a file is.
@@ -153,18 +161,25 @@ pub fn resolved_length(path: &[u8], dir: &[u8]) -> usize
     }
 }
 
+// Writes a `/` before a place unless that is the end of all, and answers where what stands before it ends.
+fn put_slash(at: usize, end: usize, out: &mut [u8]) -> usize
+    requires { ⌜ (length (closed at end []) ≤ at) × (at ≤ length (now out)) ⌝ }
+    ensures { λ r. ⌜ Closed [] at end (now (out .entry)) r (now (out .exit)) ⌝ }
+{
+    if at == end {
+        return at;
+    }
+    let e = at - 1;
+    out[e] = b'/';
+    e
+}
+
 // Writes a part so that it ends at a place, with a `/` behind it unless that is the end of all, and answers where it starts.
 fn put_part(part: &[u8], at: usize, end: usize, out: &mut [u8]) -> usize
     requires { ⌜ (length (closed at end (now part)) ≤ at) × (at ≤ length (now out)) ⌝ }
     ensures { λ r. ⌜ Closed (now (part .entry)) at end (now (out .entry)) r (now (out .exit)) ⌝ }
 {
-    if at == end {
-        let a = at - part.len();
-        buffer::copy(part, out, a);
-        return a;
-    }
-    let e = at - 1;
-    out[e] = b'/';
+    let e = put_slash(at, end, out);
     let a = e - part.len();
     buffer::copy(part, out, a);
     a
@@ -201,6 +216,72 @@ pub fn put_resolved(path: &[u8], dir: &[u8], end: usize, out: &mut [u8])
         let PathPart::Part { before, end: e } = last_part(path, dir, c) else {
             return;
         };
+        at = put_kept(path, dir, before, e, at, end, out);
+        c = before;
+    }
+}
+
+// Writes a part of a buffer so that it ends at an earlier place, as `put_part` does.
+fn put_part_down(work: &mut [u8], from: usize, to: usize, at: usize, end: usize) -> usize
+    requires { ⌜ (length (closed at end (part from to (now work))) ≤ at) × ((at ≤ from) × ((from ≤ to) × (to ≤ length (now work)))) ⌝ }
+    ensures { λ r. ⌜ Closed (part from to (now (work .entry))) at end (now (work .entry)) r (now (work .exit)) ⌝ }
+{
+    let e = put_slash(at, end, work);
+    let a = e - (to - from);
+    buffer::copy_down(work, from, to, a);
+    a
+}
+
+// The same for a part kept of a path that stands in the buffer from a place on, or of the directory before it.
+fn put_kept_down(
+    work: &mut [u8],
+    from: usize,
+    dir: &[u8],
+    before: PathCursor,
+    e: usize,
+    at: usize,
+    end: usize,
+) -> usize
+    requires { ⌜ Bounded (now dir) (drop from (now work)) before e × ((length (closed at end (piece (now dir) (drop from (now work)) before e)) ≤ at) × ((at ≤ from) × (from ≤ length (now work)))) ⌝ }
+    ensures { λ r. ⌜ Closed (piece (now (dir .entry)) (drop from (now (work .entry))) before e) at end (now (work .entry)) r (now (work .exit)) ⌝ }
+{
+    let start = before.left;
+    if before.inside {
+        return put_part(&dir[start..e], at, end, work);
+    }
+    put_part_down(work, from + start, from + e, at, end)
+}
+
+// The same as `put_resolved` where the path stands in the buffer itself, from a place up to another, behind what is written.
+pub fn put_resolved_down(work: &mut [u8], from: usize, to: usize, dir: &[u8], end: usize)
+    requires { ⌜ (length (resolve (now dir) (part from to (now work))) ≤ end) × ((end ≤ from) × ((from ≤ to) × (to ≤ length (now work)))) ⌝ }
+    ensures { λ _. ⌜ now (work .exit) ≡ sets (now (work .entry)) (end - length (resolve (now (dir .entry)) (part from to (now (work .entry))))) (resolve (now (dir .entry)) (part from to (now (work .entry)))) ⌝ }
+{
+    let mut at = end;
+    let mut c = from_end(&work[from..to]);
+    loop {
+        let PathPart::Part { before, end: e } = last_part(&work[from..to], dir, c) else {
+            return;
+        };
+        at = put_kept_down(work, from, dir, before, e, at, end);
+        c = before;
+    }
+}
+
+// Writes a path in a directory, once it is resolved, so that it ends at a buffer's end, where the buffer holds it.
+pub fn resolve_into(path: &[u8], dir: &[u8], out: &mut [u8]) -> Resolved
+    ensures { λ r. ⌜ Resolves (now (dir .entry)) (now (path .entry)) (now (out .exit)) r ⌝ }
+{
+    let end = out.len();
+    let mut at = end;
+    let mut c = from_end(path);
+    loop {
+        let PathPart::Part { before, end: e } = last_part(path, dir, c) else {
+            return Resolved::From(at);
+        };
+        if end < lengthen(end - at, e - before.left) {
+            return Resolved::Long;
+        }
         at = put_kept(path, dir, before, e, at, end, out);
         c = before;
     }
