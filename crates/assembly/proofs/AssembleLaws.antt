@@ -15,7 +15,9 @@ use Rattle.walk.specs.Steps.{done, sized, go, part, ends}
 use Rattle.walk.proofs.Sums.{total, total-append}
 use Rattle.walk.proofs.PartLaws.{made-by, Agrees, agrees-then, agrees-part, agrees-cons, unless-faults}
 use Rattle.walk.proofs.StepsLaws.{ends-go, ends-part, weigh, weigh-go, weigh-go-le, weigh-part, flaw, flaw-go, flaw-part}
-use Rattle.assembly.specs.Member.{Prepared, prepare, sharedFrom, compare, titleNamed, emit, joinLines}
+use Rattle.member.specs.Member.{Prepared, prepare}
+use Rattle.shared.specs.Shared.{sharedFrom, compare}
+use Rattle.emission.specs.Emit.{titleNamed, emit, joinLines}
 use Rattle.assembly.specs.Assemble.{prepareAll, emitAll, assemblePrepared, assemble}
 use Rattle.assembly.specs.Assembled.{preparedAll, joinedAll, assembledText, eachFaults, eachMade, present, preparedFaults, assemblyFaults, joins, assemblyRunning}
 

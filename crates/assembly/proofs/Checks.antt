@@ -21,7 +21,9 @@ use Rattle.link.specs.Target.{targetOf, rewriteTarget, anchorSelf}
 use Rattle.walk.specs.Steps.{go, judge}
 use Rattle.shift.specs.Shift.{toldFrom, pastFrom, upTo}
 use Rattle.assembly.specs.Assemble.{prepareAll, emitAll, assemble}
-use Rattle.assembly.specs.Member.{withoutContents, preparedLines, titleOf, prepare, lineOf, earlier, sharedIn, sharedFrom, movable, titleNamed, emit}
+use Rattle.member.specs.Member.{withoutContents, preparedLines, titleOf, prepare, movable}
+use Rattle.shared.specs.Shared.{lineOf, earlier, sharedIn, sharedFrom}
+use Rattle.emission.specs.Emit.{titleNamed, emit}
 
 abbrev assemblyOf : List File → Judged (List ℕ)
 assemblyOf members = judge 0 1000 0 (assemble (bytes "https://h/") members)

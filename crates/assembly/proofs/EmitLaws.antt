@@ -27,7 +27,8 @@ use Rattle.link.specs.Target.{rewriteTarget}
 use Rattle.index.specs.Index.{File}
 use Rattle.walk.specs.Parts.{Part, good, flawed, unless}
 use Rattle.shift.specs.Shift.{Told, toldFrom, kindsOf, shiftFor, atLevel, movedLine, pastFrom, upTo, dropEnd}
-use Rattle.assembly.specs.Member.{withoutContents, preparedLines, Prepared, titleOf, titled, prepare, still, movable, rewriteLine, emit}
+use Rattle.member.specs.Member.{withoutContents, preparedLines, Prepared, titleOf, titled, prepare, still, movable}
+use Rattle.emission.specs.Emit.{rewriteLine, emit}
 
 -- a list has a last element, and its bytes are some
 unfoldable pub Ends : {A : Type 0} → (A → List ℕ) → List A → Type 0

@@ -18,7 +18,9 @@ use Rattle.walk.specs.Parts.{Part, partFaults, ifMade}
 use Rattle.walk.proofs.FaultLaws.{isFault, allFaults, all-append}
 use Rattle.shift.specs.Shift.{Told}
 use Rattle.chains.proofs.FaultLaws.{past-fault, unless-fault}
-use Rattle.assembly.specs.Member.{Prepared, titleOf, titled, preparedLines, prepare, earlier, sharedAt, sharedLine, sharedIn, sharedFrom, titleNamed, emit}
+use Rattle.member.specs.Member.{Prepared, titleOf, titled, preparedLines, prepare}
+use Rattle.shared.specs.Shared.{earlier, sharedAt, sharedLine, sharedIn, sharedFrom}
+use Rattle.emission.specs.Emit.{titleNamed, emit}
 use Rattle.assembly.specs.Assembled.{eachFaults, eachMade, present, preparedFaults, assemblyFaults}
 
 -- 18

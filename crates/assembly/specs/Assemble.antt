@@ -11,7 +11,9 @@ use Rattle.assembly.specs.declared.Assembled.the-variants.{Text, Refused
 use Rattle.walk.specs.Parts.{Part}
 use Rattle.walk.specs.Steps.{Steps, done, sized, go, part}
 use Rattle.index.specs.Index.{File}
-use Rattle.assembly.specs.Member.{Prepared, prepare, compare, titleNamed, emit, joinLines}
+use Rattle.member.specs.Member.{Prepared, prepare}
+use Rattle.shared.specs.Shared.{compare}
+use Rattle.emission.specs.Emit.{titleNamed, emit, joinLines}
 
 -- "All members are prepared (18)"
 unfoldable pub prepareAll : List File → Steps (List Prepared)
@@ -29,7 +31,7 @@ assemblePrepared url ms = emitAll (emit (titleNamed ms) url) 0 ms []
 unfoldable pub assemble : List ℕ → List File → Steps (List ℕ)
 assemble url hs = go (prepareAll hs) (λ ms. go (part (compare ms)) (λ us. assemblePrepared url us))
 
--- an assembly's answer, with the buffer that begins with its text
-abbrev pub readAssembled : Assembled → List ℕ → Outcome
-readAssembled (Text n) w = text (take n w) 0
-readAssembled (Refused x) w = refusal x
+-- an assembly's answer, with the buffer that begins with its text and the files taken in before
+abbrev pub readAssembled : ℕ → Assembled → List ℕ → Outcome
+readAssembled files (Text n) w = text (take n w) files
+readAssembled files (Refused x) w = refusal x

@@ -7,7 +7,9 @@ use Rattle.text.specs.Lines.{LF}
 use Rattle.text.specs.Split.{join}
 use Rattle.index.specs.Index.{File}
 use Rattle.walk.specs.Parts.{Part, partMade, partFaults, andThen, ifMade}
-use Rattle.assembly.specs.Member.{Prepared, prepare, sharedFrom, compare, titleNamed, emit, joinLines}
+use Rattle.member.specs.Member.{Prepared, prepare}
+use Rattle.shared.specs.Shared.{sharedFrom, compare}
+use Rattle.emission.specs.Emit.{titleNamed, emit, joinLines}
 
 -- the text: every member prepared, all compared, every one emitted, and joined
 unfoldable pub preparedAll : List File → Option (List Prepared)

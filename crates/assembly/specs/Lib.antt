@@ -1,3 +1,2 @@
-pub mod Member
 pub mod Assembled
 pub mod Assemble

@@ -1,4 +1,4 @@
-// Joining members into one text. So far what an assembly answers; the definitions are in specs/.
+// Joining members into one text: all prepared, compared, and emitted one behind the other.
 use answer::Refusal;
 
 // An assembly's answer: how long the text at the front of its buffer is, or a refusal.

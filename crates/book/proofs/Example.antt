@@ -37,7 +37,9 @@ use Rattle.regions.specs.Regions.{problemsOf, isWithin, blankedFrom, lastLevel,
 use Rattle.shift.specs.Shift.{toldFrom, pastFrom as pastFrom-of-shift, upTo, blanks}
 use Rattle.assembly.specs.Assemble.{prepareAll, emitAll, assemble}
 use Rattle.assembly.specs.Assembled.{preparedAll, joinedAll, assembledText, eachFaults, eachMade, present, joins}
-use Rattle.assembly.specs.Member.{withoutContents, preparedLines, titleOf, prepare, lineOf as lineOf-of-assemblyMember, earlier, sharedIn, sharedFrom, movable, titleNamed, emit}
+use Rattle.member.specs.Member.{withoutContents, preparedLines, titleOf, prepare, movable}
+use Rattle.shared.specs.Shared.{lineOf as lineOf-of-assemblyMember, earlier, sharedIn, sharedFrom}
+use Rattle.emission.specs.Emit.{titleNamed, emit}
 use Rattle.book.specs.BookWalk.{walkAll, book}
 use Rattle.book.specs.Book.{withTexts, madeAll, bookText, madeMembers}
 use Rattle.book.specs.Calls.{fillOutcome, assembleOutcome, bookOutcome}
