@@ -1,6 +1,7 @@
 //! Times the library's scan and fill beside the Rust's, by turns in one run.
 
 mod bench_fill;
+mod bench_walk;
 mod library;
 mod library_fill;
 

@@ -3,6 +3,7 @@
 
 mod json;
 mod record_fill;
+mod record_walk;
 
 use std::fs;
 use std::path::Path;

@@ -1,10 +1,10 @@
-//! One fill of the library on lent memory, every byte of it looked at.
+//! One call of the library on lent memory, every byte of it looked at.
 
-use jilgyemot_host::answer::Answer;
-use jilgyemot_host::filling::case::Case;
-use jilgyemot_host::filling::limits::Limits;
+use super::limits::Limits;
+use crate::answer::Answer;
 
-use crate::library_fill::{fill, given};
+/// A call of the library: what is handed in, limits, output and work.
+pub type Function = fn([&[u8]; 4], &Limits, &mut [u8], &mut [u8]) -> Answer;
 
 /// Bytes kept before and behind the lent buffers.
 const GUARD: usize = 64;
@@ -61,7 +61,8 @@ impl Lent {
     /// from call to call. The work buffer has no zero before.
     pub fn call(
         &mut self,
-        case: &Case,
+        function: Function,
+        given: [&[u8]; 4],
         limits: &Limits,
         expected: &Answer,
         written: &[u8],
@@ -69,7 +70,7 @@ impl Lent {
         self.calls += 1;
         let pattern = (self.calls * 37) as u8;
         let starts = [1, 3, 5, 7].map(|step| self.calls * step % 8);
-        for ((input, from), &start) in self.inputs.iter_mut().zip(given(case)).zip(&starts) {
+        for ((input, from), &start) in self.inputs.iter_mut().zip(given).zip(&starts) {
             input.clear();
             input.resize(start, pattern);
             input.extend_from_slice(from);
@@ -78,10 +79,9 @@ impl Lent {
         self.work.renew(limits.work, pattern | 1, self.calls / 64 % 8);
 
         let inputs = std::array::from_fn(|at| &self.inputs[at][starts[at]..]);
-        let &Limits { limit, allowance, .. } = limits;
-        let answer = fill(inputs, limit, allowance, self.out.lent(), self.work.lent());
+        let answer = function(inputs, limits, self.out.lent(), self.work.lent());
 
-        let same_inputs = inputs == given(case);
+        let same_inputs = inputs == given;
         let out = self.out.after();
         let checks = [
             ("the answer", answer == *expected),

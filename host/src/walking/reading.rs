@@ -1,6 +1,6 @@
-//! Regions, headings and links of a text, written from document 01 ("Marker scan",
-//! "Headings and levels"); links as `anchor_self_links`, which it names. Nothing of
-//! the Rust is called here.
+//! Regions, headings, links and anchors of a text, written from document 01 ("Marker
+//! scan", "Headings and levels"); links and anchors as `anchor_self_links` and `slug`,
+//! which it names. Nothing of the Rust is called here.
 
 /// What stands between LFs. The scan leaves out a CR at a line's end and an empty
 /// last line, which changes nothing here, as it trims what it compares.
@@ -134,32 +134,63 @@ pub fn headings<'a>(lines: &[&'a [u8]]) -> Vec<Heading<'a>> {
     found
 }
 
-/// The line with its links that name the host and a fragment made bare.
-pub fn anchor_self_links(line: &[u8], dir: &[u8], host: &[u8]) -> Vec<u8> {
-    let mut made = Vec::new();
+/// The lines with these headings moved so that the shallowest comes to be at the
+/// target, or the number of the line that cannot.
+pub fn shifted(lines: &[&[u8]], headings: &[Heading], target: i32) -> Result<Vec<Vec<u8>>, usize> {
+    let mut moved: Vec<Vec<u8>> = lines.iter().map(|line| line.to_vec()).collect();
+    let shallowest = headings.iter().map(|heading| heading.level).min();
+    let shift = shallowest.map_or(0, |level| target - level);
+    for heading in headings {
+        let level = heading.level + shift;
+        if level > 6 {
+            return Err(heading.line + 1);
+        }
+        moved[heading.line] = [&b"######"[..level as usize], b" ", heading.text].concat();
+    }
+    Ok(moved)
+}
+
+/// The line with each target of its links made into another one.
+pub fn relinked(line: &[u8], made: impl Fn(&[u8]) -> Vec<u8>) -> Vec<u8> {
+    let mut out = Vec::new();
     let mut rest = line;
     while let Some(at) = find(b"](", rest) {
         let Some(length) = find(b")", &rest[at + 2..]) else { break };
         let (target, behind) = rest[at + 2..].split_at(length);
-        made.extend(&rest[..at + 2]);
-        made.extend(anchor_self(target, dir, host));
+        out.extend(&rest[..at + 2]);
+        out.extend(made(target));
         rest = behind;
     }
-    made.extend(rest);
-    made
+    out.extend(rest);
+    out
 }
 
-fn anchor_self<'a>(target: &'a [u8], dir: &[u8], host: &[u8]) -> &'a [u8] {
+/// The path of a target, and its fragment with the `#`; none where the target is an
+/// address, or names no path.
+pub fn path_of(target: &[u8]) -> Option<(&[u8], &[u8])> {
     if target.starts_with(b"mailto:") || holds(b"://", target) {
-        return target;
+        return None;
     }
-    match target.iter().position(|&byte| byte == b'#') {
-        Some(hash) if hash > 0 && resolve(&target[..hash], dir) == host => &target[hash..],
-        _ => target,
-    }
+    let hash = target.iter().position(|&byte| byte == b'#').unwrap_or(target.len());
+    (hash > 0).then(|| target.split_at(hash))
 }
 
-fn resolve(path: &[u8], dir: &[u8]) -> Vec<u8> {
+/// The line with its links that name the host and a fragment made bare.
+pub fn anchor_self_links(line: &[u8], dir: &[u8], host: &[u8]) -> Vec<u8> {
+    relinked(line, |target| match path_of(target) {
+        Some((path, fragment)) if !fragment.is_empty() && resolve(path, dir) == host => {
+            fragment.to_vec()
+        }
+        _ => target.to_vec(),
+    })
+}
+
+/// What stands before the last `/` of a name.
+pub fn directory(name: &[u8]) -> &[u8] {
+    &name[..name.iter().rposition(|&byte| byte == b'/').unwrap_or(0)]
+}
+
+pub fn resolve(path: &[u8], dir: &[u8]) -> Vec<u8> {
     let (root, rest) = path.strip_prefix(b"/").map_or((dir, path), |rest| (&b""[..], rest));
     let mut parts: Vec<&[u8]> = Vec::new();
     for part in root.split(|&byte| byte == b'/').chain(rest.split(|&byte| byte == b'/')) {

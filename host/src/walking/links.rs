@@ -20,7 +20,7 @@ pub fn link(file: &str, names: &[String], random: &mut Random) -> String {
 }
 
 /// A path that resolves to a name, if that name has no part that goes.
-fn path(file: &str, to: &str, random: &mut Random) -> String {
+pub fn path(file: &str, to: &str, random: &mut Random) -> String {
     let dir = file.rfind('/').map_or("", |at| &file[..at]);
     let depth = dir.split('/').filter(|part| !part.is_empty()).count();
     let beside = to.strip_prefix(dir).and_then(|rest| rest.strip_prefix('/'));
