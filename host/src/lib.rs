@@ -3,6 +3,7 @@
 
 pub mod anchor;
 pub mod answer;
+pub mod assembling;
 pub mod comparison;
 pub mod exhaustive;
 pub mod filling;

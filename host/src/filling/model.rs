@@ -3,6 +3,7 @@
 
 use crate::walking::reading::{
     Heading, Region, Scan, anchor_self_links, directory, headings, is_blank, lines, shifted,
+    without_blank_end,
 };
 use crate::walking::set::File;
 use crate::walking::steps::{End, Fault, Place, Step, Walk};
@@ -134,8 +135,7 @@ fn embedded_lines(filled: &[u8]) -> Vec<&[u8]> {
         kept[region.close] = None;
     }
     let kept: Vec<&[u8]> = kept.into_iter().flatten().collect();
-    let blank = |line: &&&[u8]| is_blank(line);
-    let end = kept.len() - kept.iter().rev().take_while(blank).count();
-    let start = kept[..end].iter().take_while(blank).count();
-    kept[start..end].to_vec()
+    let kept = without_blank_end(&kept);
+    let start = kept.iter().take_while(|line| is_blank(line)).count();
+    kept[start..].to_vec()
 }

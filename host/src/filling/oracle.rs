@@ -9,7 +9,7 @@ use doc_gen::fragment::{self, Files};
 use super::case::Case;
 use super::model::walk;
 use crate::walking::expected::{Expected, difference};
-use crate::walking::set::{File, Handed};
+use crate::walking::set::{File, Handed, ascii};
 use crate::walking::steps::{End, Fault, Place};
 
 /// The most files that a walk takes in, if nothing else is said.
@@ -38,10 +38,6 @@ impl Files for Reader<'_> {
         }
         Ok(ascii(text).to_string())
     }
-}
-
-fn ascii(text: &[u8]) -> &str {
-    str::from_utf8(text).expect("wide bytes are refused before the walk")
 }
 
 /// What the Rust gives, and how many files it read, which are not to be over `most`.

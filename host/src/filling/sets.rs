@@ -7,6 +7,7 @@ use crate::generate::{damage, straddling};
 use crate::indexed::host_name;
 use crate::notes::notes;
 use crate::random::Random;
+use crate::walking::links::name;
 use crate::walking::set::{FileSet, OwnFile};
 
 /// Whole lines: every way through a host, and through a file.
@@ -93,19 +94,6 @@ fn names(count: usize, random: &mut Random) -> Vec<String> {
     let host = if known { random.below(count) } else { count };
     names.push(names.get(host).map_or(random.pick(&HOSTS).to_string(), String::clone));
     names
-}
-
-fn name(at: usize, random: &mut Random) -> String {
-    match random.below(16) {
-        0..=3 => format!("docs/{at}.md"),
-        4..=5 => format!("docs/b/{at}.md"),
-        6 if at < 26 => char::from(b'a' + at as u8).to_string(),
-        7 if random.one_in(8) => format!("{at:x>255}"),
-        8 => format!(" {at} "),
-        9 if random.one_in(8) => format!("{at}:peer"),
-        10 => random.pick(&["/", "docs//", "../", "./"]).to_string() + &at.to_string(),
-        _ => format!("{at}.md"),
-    }
 }
 
 /// What the texts of a case hold, with a fault or two in every second case.

@@ -97,6 +97,7 @@ fn opening(line: &[u8]) -> Option<(&[u8], bool)> {
 }
 
 /// Its line counts from 0.
+#[derive(Clone, Copy)]
 pub struct Heading<'a> {
     pub line: usize,
     pub level: i32,
@@ -104,15 +105,23 @@ pub struct Heading<'a> {
 }
 
 pub fn headings<'a>(lines: &[&'a [u8]]) -> Vec<Heading<'a>> {
+    headings_and_quoted(lines).0
+}
+
+/// The headings, and for each line whether it is quoted.
+pub fn headings_and_quoted<'a>(lines: &[&'a [u8]]) -> (Vec<Heading<'a>>, Vec<bool>) {
     let mut found = Vec::new();
+    let mut quoted = vec![false; lines.len()];
     let mut quoting: Option<&[u8]> = None;
     let mut in_comment = false;
     for (at, line) in lines.iter().enumerate() {
         if let Some(marks) = quoting {
+            quoted[at] = true;
             if fence(line) == Some(marks) {
                 quoting = None;
             }
         } else if let Some(marks) = fence(line) {
+            quoted[at] = true;
             quoting = Some(marks);
         } else if in_comment {
             in_comment = !holds(b"-->", line);
@@ -120,18 +129,80 @@ pub fn headings<'a>(lines: &[&'a [u8]]) -> Vec<Heading<'a>> {
             && !holds(b"-->", rest)
         {
             in_comment = true;
-        } else {
-            let level = line.iter().take_while(|&&byte| byte == b'#').count();
-            if (1..=6).contains(&level) && line.get(level) == Some(&b' ') {
-                found.push(Heading {
-                    line: at,
-                    level: level as i32,
-                    text: trimmed(&line[level..]),
-                });
-            }
+        } else if let Some((level, text)) = heading(line) {
+            found.push(Heading { line: at, level, text });
         }
     }
-    found
+    (found, quoted)
+}
+
+/// Level and text of a heading line, wherever it stands.
+fn heading(line: &[u8]) -> Option<(i32, &[u8])> {
+    let level = line.iter().take_while(|&&byte| byte == b'#').count();
+    let headed = (1..=6).contains(&level) && line.get(level) == Some(&b' ');
+    headed.then(|| (level as i32, trimmed(&line[level..])))
+}
+
+/// The lines without hand-written contents.
+pub fn without_contents<'a>(lines: Vec<&'a [u8]>) -> Vec<&'a [u8]> {
+    let mut within = false;
+    let mut kept = Vec::new();
+    for line in lines {
+        within = is_contents(line) || within && !line.starts_with(b"#");
+        if !within {
+            kept.push(line);
+        }
+    }
+    kept
+}
+
+fn is_contents(line: &[u8]) -> bool {
+    let lower = heading(line).map(|(_, text)| text.to_ascii_lowercase());
+    matches!(lower.as_deref(), Some(b"contents" | b"table of contents"))
+}
+
+/// The lines without blank ones at the end.
+pub fn without_blank_end<'a, 'b>(lines: &'b [&'a [u8]]) -> &'b [&'a [u8]] {
+    let blank = lines.iter().rev().take_while(|line| is_blank(line)).count();
+    &lines[..lines.len() - blank]
+}
+
+/// A heading text's anchor.
+pub fn anchor(text: &[u8]) -> Vec<u8> {
+    let byte = |&byte: &u8| match byte {
+        b' ' => Some(b'-'),
+        b'-' | b'_' => Some(byte),
+        _ => byte.is_ascii_alphanumeric().then(|| byte.to_ascii_lowercase()),
+    };
+    trimmed(&plain(text)).iter().filter_map(byte).collect()
+}
+
+/// A text without its markup: a link keeps what stands in its brackets.
+fn plain(text: &[u8]) -> Vec<u8> {
+    let mut plain = Vec::new();
+    let mut rest = text;
+    while let Some((&byte, behind)) = rest.split_first() {
+        rest = behind;
+        match byte {
+            b'[' => {
+                let inside;
+                (inside, rest) = parted(rest, b']');
+                plain.extend(inside);
+                if let Some(target) = rest.strip_prefix(b"(") {
+                    rest = parted(target, b')').1;
+                }
+            }
+            b'`' | b'*' | b'_' => {}
+            _ => plain.push(byte),
+        }
+    }
+    plain
+}
+
+/// What stands before a byte and behind it; all and nothing where it does not come.
+fn parted(text: &[u8], byte: u8) -> (&[u8], &[u8]) {
+    let at = text.iter().position(|&found| found == byte).unwrap_or(text.len());
+    (&text[..at], text.get(at + 1..).unwrap_or_default())
 }
 
 /// The lines with these headings moved so that the shallowest comes to be at the

@@ -36,6 +36,11 @@ pub type File<'a> = (&'a [u8], &'a [u8]);
 /// The same, not in a set.
 pub type OwnFile = (Vec<u8>, Vec<u8>);
 
+/// A text that goes into a walk.
+pub fn ascii(text: &[u8]) -> &str {
+    str::from_utf8(text).expect("wide bytes are refused before the walk")
+}
+
 impl FileSet {
     /// The files one behind the other in the contents, a record for each.
     pub fn of(files: &[OwnFile]) -> Self {

@@ -1,0 +1,83 @@
+//! Compares the library's assembly with the Rust's and with document 01's limits on
+//! generated file sets: the six numbers, and every byte of both buffers and around
+//! them.
+
+mod library_assembly;
+
+use jilgyemot_host::assembling::case::Case;
+use jilgyemot_host::assembling::examples::{CHECKS, examples, of_example};
+use jilgyemot_host::assembling::oracle::expected;
+use jilgyemot_host::assembling::sets::Sets;
+use jilgyemot_host::assembling::shorter::shorter;
+use jilgyemot_host::comparison::{Options, report};
+use jilgyemot_host::walking::comparing::{Call, Comparison};
+use jilgyemot_host::walking::limits::Limits;
+use library_assembly::{assemble, assemble_or_null};
+
+/// From so many cases on, every answer must have been seen.
+const MANY: u64 = 200_000;
+
+/// The refusals of an assembly, and those that stand in a file.
+const REFUSALS: [usize; 13] = [1, 2, 3, 4, 5, 6, 7, 8, 14, 16, 17, 18, 19];
+const IN_FILES: [usize; 5] = [5, 16, 17, 18, 19];
+
+/// Document 01's examples, K10 to K12 held to what it says of them, all at every
+/// limit that tells.
+fn compare_examples(comparison: &mut Comparison<Case>) -> Result<u64, String> {
+    let mut calls = 0;
+    for (example, answer, text) in CHECKS {
+        comparison.check(&of_example(example), &Limits::of(1_000, 0, 4), (answer, text))?;
+        calls += 1;
+    }
+    let checks = CHECKS.into_iter().map(|(example, ..)| of_example(example));
+    for case in checks.chain(examples()) {
+        calls += comparison.compare_at_all(&case)?;
+    }
+    Ok(calls)
+}
+
+/// Index, contents, list and buffers that are there or are null. The answer is the
+/// number of cases, or what is wrong.
+fn compare_null() -> Result<u64, String> {
+    let url = Some(&b"u"[..]);
+    let empty = [None, Some(&b""[..])];
+    let mut cases = 0;
+    for index in empty {
+        for contents in empty {
+            for list in empty {
+                let given = [index, contents, list, url];
+                let mut out = [0xA5; 2];
+                let mut work = [0xA5; 2];
+                let none = assemble_or_null(given, 1, Some(&mut out), Some(&mut work));
+                let short = assemble_or_null(given, 1, None, None);
+                let nameless = assemble_or_null([index, contents, list, None], 1, None, None);
+                let same = none == [0, 1, 0, 0, 0, 0]
+                    && short == [2, 8, 0, 0, 0, 0]
+                    && nameless == [2, 6, 0, 0, 0, 0]
+                    && (out, work) == ([b'\n', 0xA5], [0, 0]);
+                if !same {
+                    return Err(format!("{given:?}: {none:?}, {short:?}, {nameless:?}"));
+                }
+                cases += 3;
+            }
+        }
+    }
+    Ok(cases)
+}
+
+fn run(options: &Options) -> Result<u64, String> {
+    let mut sets = Sets::new(options.seed);
+    let mut comparison = Comparison::of(Call { function: assemble, expected, shorter });
+    let first = compare_null()? + compare_examples(&mut comparison)?;
+    let cases = comparison.run(options, first, || sets.next())?;
+    println!("all members of up to {} whole lines", sets.members.complete());
+    println!("{}", comparison.answers);
+    if cases >= MANY && !comparison.answers.has_seen(&REFUSALS, &IN_FILES) {
+        return Err("an answer was not seen".to_string());
+    }
+    Ok(cases)
+}
+
+fn main() {
+    report("compare_assembly", run);
+}
