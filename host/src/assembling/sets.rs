@@ -83,7 +83,7 @@ fn url(random: &mut Random) -> String {
 /// What the texts of a case hold, with a fault or two in some cases.
 fn manner(random: &mut Random) -> Manner {
     Manner {
-        levels: random.pick(&[1, 2, 2, 3, 4, 5, 6]),
+        levels: random.pick(&[1, 2, 2, 3, 4, 6, 6, 6]),
         shared: random.one_in(6),
         untitled: random.one_in(8),
         contents: random.one_in(3),
@@ -197,11 +197,11 @@ fn damaged(random: &mut Random) -> Case {
 fn ill_formed(random: &mut Random) -> Case {
     let mut case = some(random);
     for _ in 0..random.within(1, 2) {
-        match random.below(10) {
+        match random.below(12) {
             6 => case.url = host_name(true, random),
             7 => drop(case.list.pop()),
             8 => case.list = case.list.repeat(random.within(12, 66)),
-            9 => spoil_name(&mut case.list, random),
+            9..=11 => spoil_name(&mut case.list, random),
             kind => case.set.spoil(kind, random),
         }
     }
