@@ -141,18 +141,19 @@ fn refused(parts: [&str; 4]) -> Case {
     Case { set: FileSet { index, contents }, list, url }
 }
 
-/// 65 records, and 65 lines of the list.
-fn too_many() -> [Case; 2] {
+/// 64 lines of the list; 65 of them, and 65 records, which are too many.
+fn many() -> [Case; 3] {
     let names: Vec<Vec<u8>> = (0..65).map(|at| at.to_string().into_bytes()).collect();
     let files: Vec<OwnFile> = names.iter().map(|name| (name.clone(), b"# T".to_vec())).collect();
     let records = Case::of(FileSet::of(&files), &[], URL.as_bytes());
-    let lines = Case::of(FileSet::of(&files[..1]), &[&b"0"[..]; 65], URL.as_bytes());
-    [records, lines]
+    let [most, more] = [64, 65]
+        .map(|lines| Case::of(FileSet::of(&files[..1]), &vec![&b"0"[..]; lines], URL.as_bytes()));
+    [most, more, records]
 }
 
 /// Every example but the checks.
 pub fn examples() -> impl Iterator<Item = Case> {
     let members = OF_MEMBERS.into_iter().map(of_members);
     let lists = OF_LISTS.into_iter().map(of_example);
-    members.chain(lists).chain(REFUSED.map(refused)).chain(too_many())
+    members.chain(lists).chain(REFUSED.map(refused)).chain(many())
 }
