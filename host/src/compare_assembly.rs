@@ -12,6 +12,7 @@ use jilgyemot_host::assembling::shorter::shorter;
 use jilgyemot_host::comparison::{Options, report};
 use jilgyemot_host::walking::comparing::{Call, Comparison};
 use jilgyemot_host::walking::limits::Limits;
+use jilgyemot_host::walking::null::{OrNull, compare_null};
 use library_assembly::{assemble, assemble_or_null};
 
 /// From so many cases on, every answer must have been seen.
@@ -36,39 +37,16 @@ fn compare_examples(comparison: &mut Comparison<Case>) -> Result<u64, String> {
     Ok(calls)
 }
 
-/// Index, contents, list and buffers that are there or are null. The answer is the
-/// number of cases, or what is wrong.
-fn compare_null() -> Result<u64, String> {
-    let url = Some(&b"u"[..]);
-    let empty = [None, Some(&b""[..])];
-    let mut cases = 0;
-    for index in empty {
-        for contents in empty {
-            for list in empty {
-                let given = [index, contents, list, url];
-                let mut out = [0xA5; 2];
-                let mut work = [0xA5; 2];
-                let none = assemble_or_null(given, 1, Some(&mut out), Some(&mut work));
-                let short = assemble_or_null(given, 1, None, None);
-                let nameless = assemble_or_null([index, contents, list, None], 1, None, None);
-                let same = none == [0, 1, 0, 0, 0, 0]
-                    && short == [2, 8, 0, 0, 0, 0]
-                    && nameless == [2, 6, 0, 0, 0, 0]
-                    && (out, work) == ([b'\n', 0xA5], [0, 0]);
-                if !same {
-                    return Err(format!("{given:?}: {none:?}, {short:?}, {nameless:?}"));
-                }
-                cases += 3;
-            }
-        }
-    }
-    Ok(cases)
+/// Index, contents, list and buffers that are there or are null.
+fn compare_nulls() -> Result<u64, String> {
+    let call: OrNull = |given, out, work| assemble_or_null(given, 1, out, work);
+    compare_null(call, 3, ([0, 1, 0, 0, 0, 0], [b'\n', 0xA5]))
 }
 
 fn run(options: &Options) -> Result<u64, String> {
     let mut sets = Sets::new(options.seed);
     let mut comparison = Comparison::of(Call { function: assemble, expected, shorter });
-    let first = compare_null()? + compare_examples(&mut comparison)?;
+    let first = compare_nulls()? + compare_examples(&mut comparison)?;
     let cases = comparison.run(options, first, || sets.next())?;
     println!("all members of up to {} whole lines", sets.members.complete());
     println!("{}", comparison.answers);

@@ -12,6 +12,7 @@ use jilgyemot_host::filling::sets::Sets;
 use jilgyemot_host::filling::shorter::shorter;
 use jilgyemot_host::walking::comparing::{Answers, Call, Comparison};
 use jilgyemot_host::walking::limits::Limits;
+use jilgyemot_host::walking::null::{OrNull, compare_null};
 use library_fill::{fill, fill_or_null};
 
 /// From so many cases on, every answer must have been seen.
@@ -46,39 +47,16 @@ fn compare_examples(comparison: &mut Comparison<Case>) -> Result<u64, String> {
     Ok(calls)
 }
 
-/// Index, contents, host's text and buffers that are there or are null. The answer
-/// is the number of cases, or what is wrong.
-fn compare_null() -> Result<u64, String> {
-    let name = Some(&b"h"[..]);
-    let empty = [None, Some(&b""[..])];
-    let mut cases = 0;
-    for index in empty {
-        for contents in empty {
-            for text in empty {
-                let given = [index, contents, name, text];
-                let mut out = [0xA5; 1];
-                let mut work = [0xA5; 2];
-                let none = fill_or_null(given, 1, 0, Some(&mut out), Some(&mut work));
-                let short = fill_or_null(given, 1, 0, None, None);
-                let nameless = fill_or_null([index, contents, None, text], 1, 0, None, None);
-                let same = none == [1, 0, 0, 0, 0, 0]
-                    && short == [2, 8, 0, 0, 0, 0]
-                    && nameless == [2, 6, 0, 0, 0, 0]
-                    && (out, work) == ([0xA5], [0, 0]);
-                if !same {
-                    return Err(format!("{given:?}: {none:?}, {short:?}, {nameless:?}"));
-                }
-                cases += 3;
-            }
-        }
-    }
-    Ok(cases)
+/// Index, contents, host's text and buffers that are there or are null.
+fn compare_nulls() -> Result<u64, String> {
+    let call: OrNull = |given, out, work| fill_or_null(given, 1, 0, out, work);
+    compare_null(call, 2, ([1, 0, 0, 0, 0, 0], [0xA5; 2]))
 }
 
 fn run(options: &Options) -> Result<u64, String> {
     let mut sets = Sets::new(options.seed);
     let mut comparison = Comparison::of(Call { function: fill, expected, shorter });
-    let first = compare_null()? + compare_examples(&mut comparison)?;
+    let first = compare_nulls()? + compare_examples(&mut comparison)?;
     let cases = comparison.run(options, first, || sets.next())?;
     let answers = &comparison.answers;
     println!("all hosts of up to {} whole lines", sets.hosts.complete());

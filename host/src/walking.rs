@@ -7,6 +7,8 @@ pub mod lent;
 pub mod limits;
 pub mod lines;
 pub mod links;
+pub mod naming;
+pub mod null;
 pub mod reading;
 pub mod set;
 pub mod shorter;

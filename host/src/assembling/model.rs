@@ -3,9 +3,9 @@
 
 use std::collections::HashMap;
 
+use crate::walking::naming::{anchor, directory, path_of, relinked, resolve};
 use crate::walking::reading::{
-    Heading, anchor, directory, headings_and_quoted, lines, path_of, relinked, resolve, shifted,
-    without_blank_end, without_contents,
+    Heading, headings_and_quoted, lines, shifted, without_blank_end, without_contents,
 };
 use crate::walking::set::File;
 use crate::walking::steps::{End, Fault, Place, Step, Walk};

@@ -153,7 +153,7 @@ fn colliding(random: &mut Random) -> Case {
     let untitled = random.one_in(4);
     let levels = random.within(1, 6);
     let manner =
-        Manner { levels, shared: true, untitled, bare: random.one_in(2), ..manner(random) };
+        Manner { levels, shared: true, untitled, bare: random.one_in(4), ..manner(random) };
     built(&names(count, random), lines, manner, random)
 }
 

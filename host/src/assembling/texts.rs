@@ -129,7 +129,7 @@ impl Writer<'_> {
     /// Mostly with the member's number in it, so that no other member has the anchor.
     fn heading_text(&mut self) -> String {
         let word = self.random.pick(&WORDS);
-        let shared = self.manner.shared && self.random.one_in(3);
+        let shared = self.manner.shared && self.random.one_in(2);
         if shared && self.random.one_in(6) {
             return self.random.pick(&TITLES).to_string();
         }

@@ -1,9 +1,9 @@
 //! The walk of a fill, written from document 01 ("Fill"), on lists of lines. Nothing
 //! of the Rust is called here.
 
+use crate::walking::naming::{anchor_self_links, directory};
 use crate::walking::reading::{
-    Heading, Region, Scan, anchor_self_links, directory, headings, is_blank, lines, shifted,
-    without_blank_end,
+    Heading, Region, Scan, headings, is_blank, lines, shifted, without_blank_end,
 };
 use crate::walking::set::File;
 use crate::walking::steps::{End, Fault, Place, Step, Walk};
