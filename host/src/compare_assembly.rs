@@ -27,8 +27,9 @@ const IN_FILES: [usize; 5] = [5, 16, 17, 18, 19];
 fn compare_examples(comparison: &mut Comparison<Case>) -> Result<u64, String> {
     let mut calls = 0;
     for (example, answer, text) in CHECKS {
-        comparison.check(&of_example(example), &Limits::of(1_000, 0, 4), (answer, text))?;
-        calls += 1;
+        let case = of_example(example);
+        comparison.check(&case, &Limits::of(1_000, 0, 4), (answer, text))?;
+        calls += 1 + comparison.compare_at_edges(&case)?;
     }
     let checks = CHECKS.into_iter().map(|(example, ..)| of_example(example));
     for case in checks.chain(examples()) {

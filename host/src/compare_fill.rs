@@ -37,8 +37,9 @@ fn is_complete(answers: &Answers) -> bool {
 fn compare_examples(comparison: &mut Comparison<Case>) -> Result<u64, String> {
     let mut calls = 0;
     for (host, file, answer, text) in CHECKS {
-        comparison.check(&of_file(host, file), &Limits::of(1_000, 9, 1), (answer, text))?;
-        calls += 1;
+        let case = of_file(host, file);
+        comparison.check(&case, &Limits::of(1_000, 9, 1), (answer, text))?;
+        calls += 1 + comparison.compare_at_edges(&case)?;
     }
     let checks = CHECKS.iter().map(|(host, file, ..)| of_file(host, file));
     for case in checks.chain(examples()) {

@@ -4,7 +4,7 @@ use std::fmt::{self, Display, Formatter};
 
 use super::expected::Expected;
 use super::lent::{Function, Lent};
-use super::limits::{Limits, Needs, all_limits, distinct, random_limits};
+use super::limits::{Limits, Needs, all_limits, distinct, edge_limits, random_limits};
 use super::set::Handed;
 use crate::answer::Answer;
 use crate::comparison::Options;
@@ -113,7 +113,12 @@ impl<C: Handed> Comparison<C> {
 
     /// A case at every limit that tells.
     pub fn compare_at_all(&mut self, case: &C) -> Result<u64, String> {
-        let compared = self.compare(case, all_limits);
+        self.compare(case, all_limits).map_err(|(wrong, _)| format!("{}{wrong}", shown(case)))
+    }
+
+    /// A case at the ends of L's range and next to them.
+    pub fn compare_at_edges(&mut self, case: &C) -> Result<u64, String> {
+        let compared = self.compare(case, |_, texts| edge_limits(texts));
         compared.map_err(|(wrong, _)| format!("{}{wrong}", shown(case)))
     }
 

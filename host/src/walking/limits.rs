@@ -122,6 +122,14 @@ pub fn all_limits(needs: &Needs, texts: usize) -> Vec<Limits> {
     limits
 }
 
+/// The largest L and the next number, 0, and each buffer one byte short.
+pub fn edge_limits(texts: usize) -> Vec<Limits> {
+    let most = Limits::of(MOST as usize, 0, texts);
+    let past = Limits { limit: MOST + 1, allowance: 0, out: most.out + 1, work: most.work * 2 };
+    let (out, work) = (most.out - 1, most.work - 1);
+    vec![most, past, Limits { limit: 0, ..most }, Limits { out, ..most }, Limits { work, ..most }]
+}
+
 /// Each of them once.
 pub fn distinct(limits: Vec<Limits>) -> Vec<Limits> {
     let mut found: Vec<Limits> = Vec::new();
