@@ -21,8 +21,8 @@ const MANY: u64 = 1_000_000;
 const LONGEST_CHAIN: usize = 64;
 
 /// The refusals of a fill, and those that a file taken in can have in the walk.
-const REFUSALS: [usize; 16] = [1, 2, 3, 4, 5, 6, 8, 9, 10, 11, 12, 13, 14, 15, 16, 17];
-const IN_FILES: [usize; 9] = [9, 10, 11, 12, 13, 14, 15, 16, 17];
+const REFUSALS: [u64; 16] = [1, 2, 3, 4, 5, 6, 8, 9, 10, 11, 12, 13, 14, 15, 16, 17];
+const IN_FILES: [u64; 9] = [9, 10, 11, 12, 13, 14, 15, 16, 17];
 
 /// Whether every answer was seen, each fault of a text in a file too, and the
 /// longest chain.

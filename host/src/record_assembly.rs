@@ -2,26 +2,16 @@
 
 use jilgyemot_host::assembling::case::Case;
 use jilgyemot_host::assembling::examples::{CHECKS, examples, of_example};
-use jilgyemot_host::assembling::oracle;
+use jilgyemot_host::assembling::oracle::{self, REFUSALS};
 use jilgyemot_host::assembling::sets::Sets;
-use jilgyemot_host::random::Random;
 use jilgyemot_host::walking::expected::Expected;
-use jilgyemot_host::walking::limits::{Limits, Needs, random_limits};
+use jilgyemot_host::walking::limits::{Limits, Needs};
 
 use crate::Cases;
-use crate::record_walk::{self, given_length, is_small};
-
-/// How many generated file sets are stored.
-const GENERATED: usize = 70;
-
-/// A generated case has at most so many bytes.
-const SHORT: usize = 700;
+use crate::record_walk::{self, Sample, is_small};
 
 /// Room to spare for an example.
 const AMPLE: usize = 1_000;
-
-/// The refusals of an assembly.
-const REFUSALS: [u64; 13] = [1, 2, 3, 4, 5, 6, 7, 8, 14, 16, 17, 18, 19];
 
 fn expected(case: &Case) -> Expected {
     oracle::expected(case).expect("the model agrees with the Rust")
@@ -67,24 +57,11 @@ fn add_examples(cases: &mut Cases) {
     }
 }
 
-/// Each at up to three of its limits.
 fn add_generated(cases: &mut Cases) {
     let mut sets = Sets::new(1);
-    let mut random = Random::new(1);
-    let mut stored = 0;
-    while stored < GENERATED {
-        let case = sets.next();
-        let expected = expected(&case);
-        let mut limits = random_limits(&Needs::of(&expected.walk), expected.texts, &mut random);
-        limits.iter_mut().for_each(|limits| limits.allowance = 0);
-        limits.retain(|limits| is_small(&case, limits));
-        if given_length(&case) <= SHORT {
-            for _ in 0..limits.len().min(3) {
-                add(cases, &case, &limits.remove(random.below(limits.len())));
-            }
-            stored += 1;
-        }
-    }
+    let sample = Sample { count: 70, most: 700 };
+    let limited = |limits| Limits { allowance: 0, ..limits };
+    record_walk::add_generated(cases, sample, || sets.next(), expected, limited);
 }
 
 pub fn add_assemblies(cases: &mut Cases) {

@@ -4,18 +4,11 @@ use jilgyemot_host::filling::case::Case;
 use jilgyemot_host::filling::examples::{CHECKS, examples, of_file};
 use jilgyemot_host::filling::oracle;
 use jilgyemot_host::filling::sets::Sets;
-use jilgyemot_host::random::Random;
 use jilgyemot_host::walking::expected::Expected;
-use jilgyemot_host::walking::limits::{Limits, Needs, random_limits};
+use jilgyemot_host::walking::limits::{Limits, Needs};
 
 use crate::Cases;
-use crate::record_walk::{self, given_length, is_small};
-
-/// How many generated cases are stored.
-const GENERATED: usize = 160;
-
-/// A generated case has at most so many bytes.
-const SHORT: usize = 600;
+use crate::record_walk::{self, Sample};
 
 fn expected(case: &Case) -> Expected {
     oracle::expected(case).expect("the model agrees with the Rust")
@@ -51,23 +44,10 @@ fn add_examples(cases: &mut Cases) {
     add(cases, &of_file("", ""), &Limits { limit: 0, ..Limits::of(1, 0, 1) });
 }
 
-/// Each at three of its limits, or at two where no text is tested.
 fn add_generated(cases: &mut Cases) {
     let mut sets = Sets::new(1);
-    let mut random = Random::new(1);
-    let mut stored = 0;
-    while stored < GENERATED {
-        let case = sets.next();
-        let expected = expected(&case);
-        let mut limits = random_limits(&Needs::of(&expected.walk), expected.texts, &mut random);
-        limits.retain(|limits| is_small(&case, limits));
-        if given_length(&case) <= SHORT {
-            for _ in 0..limits.len().min(3) {
-                add(cases, &case, &limits.remove(random.below(limits.len())));
-            }
-            stored += 1;
-        }
-    }
+    let sample = Sample { count: 160, most: 600 };
+    record_walk::add_generated(cases, sample, || sets.next(), expected, |limits| limits);
 }
 
 pub fn add_fills(cases: &mut Cases) {

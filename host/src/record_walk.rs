@@ -1,7 +1,8 @@
 //! A stored case of a call with a walk.
 
+use jilgyemot_host::random::Random;
 use jilgyemot_host::walking::expected::Expected;
-use jilgyemot_host::walking::limits::Limits;
+use jilgyemot_host::walking::limits::{Limits, Needs, random_limits};
 use jilgyemot_host::walking::set::Handed;
 
 use crate::Cases;
@@ -22,7 +23,7 @@ pub fn is_small(case: &impl Handed, limits: &Limits) -> bool {
         && limits.limit.max(u64::from(limits.allowance)) <= MOST_NUMBER
 }
 
-pub fn given_length(case: &impl Handed) -> usize {
+fn given_length(case: &impl Handed) -> usize {
     case.parts().iter().map(|part| part.len()).sum()
 }
 
@@ -44,5 +45,37 @@ pub fn add(cases: &mut Cases, case: &impl Handed, limits: &Limits, expected: &Ex
     if answer[0] == 0 {
         cases.stdout.extend(expected.written(&answer));
         cases.stdout.push(b'\n');
+    }
+}
+
+/// How many generated cases are stored, and the most bytes that one has.
+pub struct Sample {
+    pub count: usize,
+    pub most: usize,
+}
+
+/// Each at three of its limits, or at two where no text is tested. `limited` makes other
+/// limits of those.
+pub fn add_generated<C: Handed>(
+    cases: &mut Cases,
+    sample: Sample,
+    mut next: impl FnMut() -> C,
+    expected: impl Fn(&C) -> Expected,
+    limited: impl Fn(Limits) -> Limits,
+) {
+    let mut random = Random::new(1);
+    let mut stored = 0;
+    while stored < sample.count {
+        let case = next();
+        let expected = expected(&case);
+        let limits = random_limits(&Needs::of(&expected.walk), expected.texts, &mut random);
+        let mut limits: Vec<Limits> = limits.into_iter().map(&limited).collect();
+        limits.retain(|limits| is_small(&case, limits));
+        if given_length(&case) <= sample.most {
+            for _ in 0..limits.len().min(3) {
+                add(cases, &case, &limits.remove(random.below(limits.len())), &expected);
+            }
+            stored += 1;
+        }
     }
 }

@@ -10,6 +10,9 @@ use crate::walking::expected::{Expected, difference};
 use crate::walking::set::{File, Handed, ascii};
 use crate::walking::steps::{End, Fault, Place, Walk};
 
+/// The refusals of an assembly.
+pub const REFUSALS: [u64; 13] = [1, 2, 3, 4, 5, 6, 7, 8, 14, 16, 17, 18, 19];
+
 /// The members, as the Rust takes them.
 pub fn members(case: &Case) -> Vec<Member> {
     let files = case.set.files();

@@ -33,7 +33,7 @@ fn of_notes(count: usize, size: usize, random: &mut Random) -> Case {
 }
 
 /// The member of a number: notes of `size` bytes or a few less, every heading with the
-/// number in it, and a link every dozen lines or so.
+/// number in it, and a link every twentieth line or so.
 pub fn noted(number: usize, members: usize, size: usize, random: &mut Random) -> Vec<u8> {
     let mut text = format!("# Station {number}\n\n");
     for line in plain(size, random).split(|&byte| byte == b'\n') {
@@ -78,9 +78,8 @@ fn links(number: usize, lines: usize) -> Vec<u8> {
     let mut text = format!("# Station {number}\n\n");
     for at in 0..lines {
         let to = at % 8;
-        text += &format!(
-            "[next]({to}.md), [datum](../docs/{to}.md#k), [rota](staff/{at}.md), [map](/map.md#{at})\n"
-        );
+        text += &format!("[next]({to}.md), [datum](../docs/{to}.md#k), ");
+        text += &format!("[rota](staff/{at}.md), [map](/map.md#{at})\n");
     }
     text.into_bytes()
 }

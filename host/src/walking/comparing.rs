@@ -43,10 +43,10 @@ impl Answers {
 
     /// Whether some case was accepted, and these refusals were seen, some of them in a
     /// file.
-    pub fn has_seen(&self, refused: &[usize], in_files: &[usize]) -> bool {
+    pub fn has_seen(&self, refused: &[u64], in_files: &[u64]) -> bool {
         self.accepted > 0
-            && refused.iter().all(|&number| self.refused[number] > 0)
-            && in_files.iter().all(|&number| self.in_files[number] > 0)
+            && refused.iter().all(|&number| self.refused[number as usize] > 0)
+            && in_files.iter().all(|&number| self.in_files[number as usize] > 0)
     }
 }
 
