@@ -72,10 +72,10 @@ void jilgyemot_fill(const uint8_t *index, size_t index_length,
 /*
  * Assembles the files that a list names into one text, in the list's order. Index,
  * contents and limit are as for a fill. The list has a name a line, with its LF; 0
- * to 64 lines, and a name may come twice. The URL has 1 to 255 bytes of 20 to 7E
- * hex: a link to a file that is not listed is sent there. The output has at least
- * `limit` bytes, and work at least (index lines + list lines + 2) times `limit`; it
- * may hold anything, and is zero after every call.
+ * to 64 lines, and a name may come twice; an empty list gives one LF. The URL has 1
+ * to 255 bytes of 20 to 7E hex: a link to a file that is not listed is sent there.
+ * The output has at least `limit` bytes, and work at least (index lines + list lines
+ * + 2) times `limit`; it may hold anything, and is zero after every call.
  *
  * Accepted: 0, the text's length, 0, 0, 0, 0. The output begins with the text, and
  * its other bytes are unchanged. Refused, the output unchanged: 2, the number, and
