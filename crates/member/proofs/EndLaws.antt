@@ -13,7 +13,6 @@ use Rattle.fence.specs.declared.Fence.the-variants.{Outside, Ticks, Tildes}
 use Rattle.heading.specs.Level.{shallowestOf, deepestOf}
 use Rattle.heading.specs.Walk.{stepKind, stepAfter, stillKind, walkBegin}
 use Rattle.heading.specs.declared.level.TopLevel.the-variants.{NoHeading}
-use Rattle.heading.specs.declared.walk.LineKind.{LineKind}
 use Rattle.heading.specs.declared.walk.LineKind.the-variants.{Heading}
 use Rattle.heading.specs.declared.walk.WalkState.{WalkState}
 use Rattle.heading.proofs.StillLaws.{blank-kind}

@@ -6,7 +6,7 @@ use mathlib.Core.Bool.{Bool, true, false, cond}
 use mathlib.Core.List.{List, [], _∷_}
 use lib.ListN.{length, take, drop, length-drop}
 use lib.Seq.{length-take-le, take-length, take-take}
-use lib.Dec.{eqb, leb}
+use lib.Dec.{eqb}
 use borrow.Author.Tests.{le-leb, lt-leb, eqb-true}
 use Rattle.text.specs.Bytes.{part, is, first}
 use Rattle.text.specs.Lines.{LF, pieces, piecesAfter}

@@ -1,11 +1,11 @@
 -- Laws of the title and of the headings that move, line by line, with a title before or not; and that lines which are no headings do not change
 -- them. Assumes nothing.
-use Prim.Native.Nat.{ℕ, _+_, _≤_, max}
+use Prim.Native.Nat.{ℕ, _≤_}
 use native.Mathlib.Omega.{arith}
 use mathlib.Core.Path.{_≡_, refl, sym, ap, _∙_}
 use mathlib.Core.Bool.{Bool, true, false, cond}
 use mathlib.Core.List.{List, [], _∷_, _++_}
-use mathlib.Core.Option.{Option, none, some}
+use mathlib.Core.Option.{none}
 use lib.Dec.{eqb}
 use Rattle.heading.specs.Level.{shallower, shallowestOf, deeper, deepestOf, IsLevel}
 use Rattle.heading.specs.declared.level.TopLevel.{TopLevel}

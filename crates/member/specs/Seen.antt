@@ -1,7 +1,7 @@
 -- A member's lines, one after the other, with a title among those before or not. Nothing here is document 01's: inner functions promise it.
 use Prim.Native.Nat.{ℕ, _+_, _^_, _≤_, _<_}
 use mathlib.Core.Path.{_≡_}
-use mathlib.Core.Bool.{Bool, true, false, cond, _||_}
+use mathlib.Core.Bool.{Bool, cond, _||_}
 use lib.Dec.{eqb}
 use Rattle.heading.specs.Level.{shallower, deeper}
 use Rattle.heading.specs.declared.walk.LineKind.{LineKind}

@@ -6,7 +6,6 @@ use lib.ListN.{length}
 use mir.Syntax.{w32}
 use mir.Val.{toZ}
 use borrow.Author.Needs.{needs}
-use Rattle.shift.specs.Levels.{HasLevel}
 use Rattle.heading.proofs.LevelLaws.{shift-kept}
 use Rattle.member.proofs.HeadingLaws.{line-next}
 use Rattle.member.proofs.BelowLaws.{Below, below-first, below-some, below-level, below-here, below-line}
