@@ -1,5 +1,5 @@
 -- Document 01, "Assembly and book": "Anchor: `slug`": the anchor of a heading's text, as the Rust's `slug` makes it.
-use Prim.Native.Nat.{ℕ, suc, _≤_, _<_}
+use Prim.Native.Nat.{ℕ, suc, _+_, _*_, _%_, _≤_, _<_}
 use mathlib.Core.Bool.{Bool, false, cond, not, _&&_, _||_}
 use mathlib.Core.List.{List, [], _∷_}
 use lib.ListN.{length}
@@ -76,3 +76,14 @@ plainEndFrom m end n (x ∷ t) = plainEndFrom (markupAfter m x) (cond (shows m x
 
 abbrev pub plainEnd : List ℕ → ℕ
 plainEnd t = plainEndFrom Written 0 0 t
+
+-- A number that equal anchors share. It is not document 01's: it only makes comparing anchors faster.
+abbrev pub stirred : ℕ → ℕ → ℕ
+stirred n x = (n + x) * 6700417 % 0x100_0000_0000
+
+unfoldable pub numberFrom : ℕ → List ℕ → ℕ
+numberFrom n [] = n
+numberFrom n (x ∷ a) = numberFrom (stirred n x) a
+
+abbrev pub anchorNumber : List ℕ → ℕ
+anchorNumber a = numberFrom 0 a

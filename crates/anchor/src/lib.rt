@@ -1,9 +1,9 @@
 // Anchors: the bytes of a heading text's anchor one after the other, without a buffer.
 ghost use mathlib.Core.Path.{_≡_};
-ghost use Prim.Native.Nat.{_≤_};
+ghost use Prim.Native.Nat.{_≤_, _<_};
 ghost use lib.ListN.{length};
 ghost use Rattle.text.specs.Pattern.{equals as equalsTo};
-ghost use Rattle.anchor.specs.Anchor.{shows as showsIn, markupAfter, isMark, isKept, slug, anchorFrom, CursorWithin, NextByte, plainEnd};
+ghost use Rattle.anchor.specs.Anchor.{shows as showsIn, markupAfter, isMark, isKept, slug, anchorFrom, CursorWithin, NextByte, plainEnd, stirred, anchorNumber};
 use text::ascii;
 use text::space;
 
@@ -189,5 +189,29 @@ pub fn same_anchor(s: &[u8], t: &[u8]) -> bool
                 }
             },
         }
+    }
+}
+
+// An anchor's number with another byte behind.
+fn stir(n: usize, b: u8) -> usize
+    requires { ⌜ n < 0x100_0000_0000 ⌝ }
+    ensures { λ r. ⌜ (r ≡ stirred n b) × (r < 0x100_0000_0000) ⌝ }
+{
+    (n + b as usize) * 6700417 % 0x100_0000_0000
+}
+
+// A number below 2^40 made of the bytes of a heading text's anchor: equal anchors have equal numbers.
+pub fn number_of(text: &[u8]) -> usize
+    ensures { λ r. ⌜ r ≡ anchorNumber (slug (now (text .entry))) ⌝ }
+    ensures { λ r. ⌜ r < 0x100_0000_0000 ⌝ }
+{
+    let mut n = 0;
+    let mut c = start(text);
+    loop {
+        let AnchorByte::Byte(b, d) = next(text, c) else {
+            return n;
+        };
+        n = stir(n, b);
+        c = d;
     }
 }
