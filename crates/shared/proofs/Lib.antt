@@ -1,0 +1,4 @@
+pub mod MarksLaws
+pub mod LineLaws
+pub mod EarlierLaws
+pub mod CompareLaws
