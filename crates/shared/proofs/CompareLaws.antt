@@ -179,12 +179,12 @@ module _ {index contents set : List ℕ} {i table stop : ℕ} {w₀ : List ℕ} 
           done = x .done ++ upTo h;
           whole = x .whole ∙ ap (λ (ts : List Told). x .done ++ ts) (left-up h) ∙ sym (append-assoc (x .done) (upTo h) (leftOf d (sourceText text contents w₀)));
           told =
-            rw next-table
-            (tells-append y file (x .done) (upTo h) (lines-still m file one (x .done) (x .told)) (tells-up h y file (rw number-of at (m .own))));
+              rw next-table
+              (tells-append y file (x .done) (upTo h) (lines-still m file one (x .done) (x .told)) (tells-up h y file (rw number-of at (m .own))));
           left =
-            x .left
-            ∙ shared-next h (preparedFrom index contents w₀ set 0 i) (preparedIn index contents w₀ (memberAt set i))
-            ∙ rw (eq-eqb (second .line) 0 e);
+              x .left
+              ∙ shared-next h (preparedFrom index contents w₀ set 0 i) (preparedIn index contents w₀ (memberAt set i))
+              ∙ rw (eq-eqb (second .line) 0 e);
         }
           where
             one : 1 ≤ file
@@ -195,6 +195,6 @@ module _ {index contents set : List ℕ} {i table stop : ℕ} {w₀ : List ℕ} 
         walk-hit r e z = (
           sharedIn (preparedFrom index contents w₀ set 0 i) (preparedIn index contents w₀ (memberAt set i)) (d .line + 1) (leftOf d (sourceText text contents w₀)),
           x .left
-          ∙ shared-next h (preparedFrom index contents w₀ set 0 i) (preparedIn index contents w₀ (memberAt set i))
-          ∙ rw (← e, ne-eqb (r .line) 0 z, x .file-is),
+              ∙ shared-next h (preparedFrom index contents w₀ set 0 i) (preparedIn index contents w₀ (memberAt set i))
+              ∙ rw (← e, ne-eqb (r .line) 0 z, x .file-is),
         )

@@ -125,13 +125,13 @@ module _ (index contents work set a : List ℕ) (i q : ℕ) (s : Searched index 
   search-own e = (
     omega arith,
     s .1
-    ∙ ap (earlier (nameOf index (memberAt set i)) a) (prepared-at index contents work set q i h)
-    ∙ earlier-own
-    (nameOf index (memberAt set i))
-    a
-    (preparedIn index contents work (memberAt set q))
-    (preparedFrom index contents work set (q + 1) (i - (q + 1)))
-    (rw (at-i, at-q) at e),
+        ∙ ap (earlier (nameOf index (memberAt set i)) a) (prepared-at index contents work set q i h)
+        ∙ earlier-own
+        (nameOf index (memberAt set i))
+        a
+        (preparedIn index contents work (memberAt set q))
+        (preparedFrom index contents work set (q + 1) (i - (q + 1)))
+        (rw (at-i, at-q) at e),
   )
 
   module _ (differs : equals (nameOf index mine) (nameOf index m) ≡ false) {text : Source} (is-text : text ≡ textSource m) where
@@ -142,14 +142,14 @@ module _ (index contents work set a : List ℕ) (i q : ℕ) (s : Searched index 
     search-without e = (
       omega arith,
       s .1
-      ∙ ap (earlier (nameOf index (memberAt set i)) a) (prepared-at index contents work set q i h)
-      ∙ earlier-without
-      (nameOf index (memberAt set i))
-      a
-      (preparedIn index contents work (memberAt set q))
-      (preparedFrom index contents work set (q + 1) (i - (q + 1)))
-      (rw (at-i, at-q) at differs)
-      (sym line ∙ e),
+          ∙ ap (earlier (nameOf index (memberAt set i)) a) (prepared-at index contents work set q i h)
+          ∙ earlier-without
+          (nameOf index (memberAt set i))
+          a
+          (preparedIn index contents work (memberAt set q))
+          (preparedFrom index contents work set (q + 1) (i - (q + 1)))
+          (rw (at-i, at-q) at differs)
+          (sym line ∙ e),
     )
 
     pub search-with : (r : ℕ) → r ≡ lineOf a 1 (keptLines (sourceText text contents work)) → (r ≡ 0 → ⊥) → place (m .file) r ≡ earlier (nameOf index (memberAt set i)) a (preparedFrom index contents work set 0 i)

@@ -2,3 +2,4 @@ pub mod MarksLaws
 pub mod LineLaws
 pub mod EarlierLaws
 pub mod CompareLaws
+pub mod SharedLaws

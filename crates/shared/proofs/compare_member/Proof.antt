@@ -96,8 +96,7 @@ returns-2 : tie.Need-returns-2 Inv-loop μ-loop
 returns-2 c = let p = c .before .before .before .before .before .before .before .before .before .before .before .before .before .before .before .before .before .before .before .before .before .before .before .before .pre .0 in
     let x = c .before .before .before .before .before .before .before .before .before .before .before .before .before .before .before .before .before .loop .inv in
     let h = rw (c .before .before .before .before .before .before .before .before .before .before .before .before .before .start .given .1) at (walk-found (p .0) (p .1 .0) (p .1 .1) x (c .before .before .before .before .before .before .before .before .before .before .before .before .before .before .before .heading-in .result) (c .before .before .before .before .before .before .before .before .before .before .before .before .before .before .before .heading-in .ensures)) in
-    let e = second-found (p .0) (p .1 .0) (p .1 .1) x h (c .before .before .before .before .before .before .before .before .before .before .before .part-of .ensures) (c .before .before .before .before .before .before .before .before .before .number-in .ensures) (c .before .before .before .before .before .before .before .mark-anchor .ensures) (c .before .before .earlier .result) (c .before .before .earlier .ensures) in
-    (
+    let e = second-found (p .0) (p .1 .0) (p .1 .1) x h (c .before .before .before .before .before .before .before .before .before .before .before .part-of .ensures) (c .before .before .before .before .before .before .before .before .before .number-in .ensures) (c .before .before .before .before .before .before .before .mark-anchor .ensures) (c .before .before .earlier .result) (c .before .before .earlier .ensures) in (
       walk-hit (p .0) (p .1 .0) (p .1 .1) x h (c .before .before .before .before .before .before .before .before .before .before .before .part-of .ensures) (c .before .before .before .before .before .before .before .before .before .number-in .ensures) (c .before .before .before .before .before .before .before .mark-anchor .ensures) (c .before .before .earlier .result) e (λ z. omega arith),
       (tt, next-same (p .0) (p .1 .0) (p .1 .1) x h (c .before .before .before .before .before .before .before .before .before .before .before .part-of .ensures) (c .before .before .before .before .before .before .before .before .before .number-in .ensures) (c .before .before .before .before .before .before .before .mark-anchor .ensures)),
     )
