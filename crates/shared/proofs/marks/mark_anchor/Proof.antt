@@ -3,7 +3,6 @@ use Prim.Native.Nat.{_/_}
 use lib.ListN.{length}
 use lib.Dec.{eqb}
 use mathlib.Core.Bool.{false, not}
-use mathlib.Core.Path.{sym, _∙_}
 use mathlib.Core.Logic.{inl, inr}
 use native.Mathlib.Nat.{mod-lt}
 use native.Mathlib.Omega.{arith}
