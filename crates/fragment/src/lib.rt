@@ -122,7 +122,7 @@ fn embed(
         limit,
         len: spot.len,
     };
-    filling::take_in(got, index, contents, row, host, at.used + 1, to, work)
+    taking::take_in(got, index, contents, row, host, at.used + 1, to, work)
 }
 
 // Fills a file. The chain started with the file named top, and the marked files were taken in since.
