@@ -1,14 +1,64 @@
-// The file of a region, once it is filled, embedded in its host.
+// Where a fill stands: at its start, and behind a region whose file is filled and embedded in the host.
 ghost use mathlib.Core.Path.{_≡_};
-ghost use Prim.Native.Nat.{_+_};
+ghost use mathlib.Core.List.{List};
+ghost use Prim.Native.Nat.{ℕ, _+_};
 ghost use lib.ListN.{length, take, drop};
 ghost use Rattle.text.specs.Bytes.{part};
+ghost use Rattle.index.specs.Index.{fileOf};
+ghost use Rattle.regions.specs.Hosts.{surveyOf};
+ghost use Rattle.regions.specs.Regions.{scanned};
 ghost use Rattle.embedding.specs.Embed.{embedTold};
 ghost use Rattle.filling.specs.Filling.{readFilled, FilledWithin, takenIn, Lies, CanTake};
+ghost use Rattle.taking.specs.Stands.{firstOf, afterOf};
 use filling::Filled;
+use filling::Filling;
 use index::rows::Row;
 use insertion::Insertion;
 use insertion::Source;
+use regions::host;
+use regions::host::HostCursor;
+use regions::survey;
+use regions::survey::Surveyed;
+
+// Where a fill stands: behind a region or at the start, with how long its text is and the files taken in; or it is done.
+pub enum Stand {
+    On {
+        c: HostCursor,
+        len: usize,
+        used: usize,
+    },
+    Done(Filled),
+}
+
+// Where a fill starts: 9 to 11 and no region come before it.
+pub fn first(s: &[u8], at: Filling) -> Stand
+    ensures { λ r. ⌜ ((name : List ℕ) → r ≡ firstOf (at .used) (surveyOf (scanned (fileOf (at .number) name (now (s .entry)))))) ⌝ }
+{
+    match survey::survey(s, at.number) {
+        Surveyed::Wrong(refusal) => Stand::Done(Filled::Refused(refusal)),
+        Surveyed::NoRegion => Stand::Done(Filled::NoRegion),
+        Surveyed::Regions => Stand::On {
+            c: host::start(),
+            len: 0,
+            used: at.used,
+        },
+    }
+}
+
+// Where it stands behind a region whose file was taken in.
+pub fn after(got: Filled, behind: HostCursor) -> Stand
+    ensures { λ r. ⌜ r ≡ afterOf got behind ⌝ }
+{
+    match got {
+        Filled::Text { length, files } => Stand::On {
+            c: behind,
+            len: length,
+            used: files,
+        },
+        Filled::NoRegion => Stand::Done(Filled::NoRegion),
+        Filled::Refused(refusal) => Stand::Done(Filled::Refused(refusal)),
+    }
+}
 
 // Embeds what a fill gave behind the running text: its text, which starts at the limit; the file as it stands, where it has no region; or its refusal.
 pub fn take_in(
