@@ -6,3 +6,9 @@ pub enum Assembled {
     Text(usize),
     Refused(Refusal),
 }
+
+// All members are prepared, or 18 at the first that has no title.
+enum Ready {
+    All,
+    Refused(Refusal),
+}
