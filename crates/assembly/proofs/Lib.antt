@@ -5,3 +5,6 @@ pub mod EmitLaws
 pub mod PrepareLaws
 pub mod RuleLaws
 pub mod TurnLaws
+pub mod StandLaws
+pub mod EmittingLaws
+pub mod BehindLaws

@@ -1,25 +1,30 @@
 -- Laws of members that are prepared one after the other, and of the whole once they are. Assumes nothing.
-use Prim.Native.Nat.{ℕ, zero, suc, _+_, _≤_, _<_}
+use Prim.Native.Nat.{ℕ, zero, suc, _+_, _*_, _≤_, _<_}
 use native.Mathlib.Omega.{arith}
-use mathlib.Core.Path.{_≡_, refl, sym, ap, _∙_}
+use mathlib.Core.Path.{_≡_, refl, sym, ap, _∙_, subst}
 use mathlib.Core.Bool.{Bool, true, false}
 use mathlib.Core.List.{List, [], _∷_}
-use mathlib.Core.Option.{some}
+use mathlib.Core.Option.{none, some}
 use lib.Dec.{eqb}
 use lib.ListN.{length}
+use lib.Seq.{sets}
 use borrow.Author.Tests.{eqb-true, eqb-false}
 use Rattle.answer.specs.declared.Refusal.{Refusal}
+use Rattle.answer.specs.declared.Refusal.the-variants.{NoTitle}
 use Rattle.index.specs.Index.{File}
 use Rattle.walk.specs.Parts.{Part, good, flawed}
 use Rattle.walk.specs.Steps.{Steps, done, failed, go, refused, judge}
-use Rattle.put.specs.Put.{sourceText}
+use Rattle.put.specs.Put.{sourceText, Inside}
+use Rattle.put.specs.declared.Source.{Source}
 use Rattle.member.specs.Member.{Prepared, preparedLines, titleOf, titled, prepare}
-use Rattle.members.specs.Members.{memberAt, nameOf, fileIn, preparedIn, filesFrom, preparedFrom, Lies, AllLie, AllStand, AllKnown}
+use Rattle.member.specs.Outline.{IsOutline}
+use Rattle.member.specs.declared.outline.Outline.{Outline}
+use Rattle.members.specs.Members.{memberAt, numbersOf, nameOf, fileIn, preparedIn, filesFrom, preparedFrom, Lies, AllLie, AllStand, AllKnown}
 use Rattle.members.specs.declared.Member.{Member}
-use Rattle.members.proofs.MembersLaws.{prepares, all-stand}
+use Rattle.members.proofs.MembersLaws.{member-put-same, member-put-other, prepares, all-stand}
 use Rattle.shared.specs.Shared.{sharedFrom}
 use Rattle.assembly.specs.Assemble.{prepareAll, assemblePrepared, assemble}
-use Rattle.assembly.specs.Parts.{SameFile, ArePrepared}
+use Rattle.assembly.specs.Parts.{CanPrepare, SameFile, ArePrepared}
 
 module _ (index contents work old new : List ℕ) where
   -- all of n members from member i on are prepared
@@ -102,3 +107,72 @@ module _ (B L n : ℕ) (url : List ℕ) (hs : List File) where
   pub assemble-goes : (ms : List Prepared) → prepareAll hs ≡ done ms → sharedFrom [] ms ≡ [] → judge B L n (assemble url hs) ≡ judge B L n (assemblePrepared url ms)
   unfolding assemble go
   assemble-goes ms e q = rw (e, q)
+
+-- ---- the loop of preparing: i of n members are prepared
+
+pub record SoFar (contents work old new : List ℕ) (i n : ℕ) : Type 0 where
+  pub same : (k : ℕ) → k < n → SameFile (memberAt old k) (memberAt new k)
+  pub known : AllKnown contents work new i
+
+pub far-start : (contents work set : List ℕ) (n : ℕ) → SoFar contents work set set 0 n
+far-start contents work set n = record { same = λ k h. record { name = refl; file = refl; source = refl }; known = record { known = λ k h. absurd (omega arith) } }
+
+pub far-end : {contents work old new : List ℕ} {i n : ℕ} → SoFar contents work old new i n → n ≤ i → ArePrepared contents work old new n
+far-end f h = record { same = f .same; known = record { known = λ k j. f .known .known k (omega arith) } }
+
+abbrev Outlines : List ℕ → List ℕ → Member → Type 0
+Outlines contents work m = IsOutline (sourceText (m .source) contents work) (m .outline)
+
+abbrev withOutline : Member → Outline → Member
+withOutline m o = record { name = m .name; file = m .file; source = m .source; outline = o }
+
+module _ {contents work old new : List ℕ} {i n : ℕ} (f : SoFar contents work old new i n) (h : i < n) where
+  pub far-stops : titleOf (preparedLines (sourceText (memberAt new i .source) contents work)) ≡ none → (index : List ℕ)
+      → prepareAll (filesFrom index contents work old 0 n) ≡ failed (NoTitle (memberAt new i .file))
+  unfolding prepare
+  far-stops e index =
+      let q : prepare (fileIn index contents work (memberAt new i)) ≡ flawed (NoTitle (memberAt new i .file)) [] = rw e in
+      prepare-stops index contents work old i n (NoTitle (memberAt new i .file)) [] h (ap prepare (sym (file-same (f .same i h) index contents work)) ∙ q)
+      (λ k j. let g = prepare-good (fileIn index contents work (memberAt new k)) _ (f .known .known k j .title) in
+      (g .0, ap prepare (sym (file-same (f .same k (omega arith)) index contents work)) ∙ g .1))
+
+  module _ (o : Outline) (len : length new ≡ 704) (few : n ≤ 64) (q : IsOutline (sourceText (memberAt new i .source) contents work) o) where
+    abbrev put : List ℕ
+    put = sets new (11 * i) (numbersOf (withOutline (memberAt new i) o))
+
+    put-same : memberAt put i ≡ withOutline (memberAt new i) o
+    put-same = member-put-same new i (withOutline (memberAt new i) o) len (omega arith) (q .levels .level)
+
+    put-other : (k : ℕ) → (k ≡ i → ⊥) → memberAt put k ≡ memberAt new k
+    put-other k d = member-put-other new i (withOutline (memberAt new i) o) k d
+
+    pub far-next : SoFar contents work old put (i + 1) n
+    far-next = record { same = λ k j. same-at k j (eqb k i) refl; known = record { known = λ k j. known-at k j (eqb k i) refl } }
+      where
+        same-at : (k : ℕ) → k < n → (b : Bool) → eqb k i ≡ b → SameFile (memberAt old k) (memberAt put k)
+        same-at k j true e =
+            let s = f .same i h in
+            subst (λ (x : ℕ). SameFile (memberAt old x) (memberAt put x)) (sym (eqb-true k i e))
+            (subst (λ (m : Member). SameFile (memberAt old i) m) (sym put-same) (record { name = s .name; file = s .file; source = s .source }))
+        same-at k j false e = subst (λ (m : Member). SameFile (memberAt old k) m) (sym (put-other k (eqb-false k i e))) (f .same k j)
+
+        known-at : (k : ℕ) → k < i + 1 → (b : Bool) → eqb k i ≡ b → Outlines contents work (memberAt put k)
+        known-at k j true e = subst (λ (x : ℕ). Outlines contents work (memberAt put x)) (sym (eqb-true k i e)) (subst (Outlines contents work) (sym put-same) q)
+        known-at k j false e = subst (Outlines contents work) (sym (put-other k (eqb-false k i e))) (f .known .known k (omega (arith, eqb-false k i e)))
+
+-- the same by the member that was read
+module _ {contents work old new : List ℕ} {i n : ℕ} (f : SoFar contents work old new i n) (h : i < n) (m : Member) (e : m ≡ memberAt new i) where
+  pub read-inside : (size room : ℕ) → CanPrepare size room old n → Inside (m .source) 0 size room
+  read-inside size room p =
+      subst (λ (s : Source). Inside s 0 size room) (sym (ap (λ (x : Member). x .source) e ∙ f .same i h .source)) (p .inside i h)
+
+  pub read-stops : titleOf (preparedLines (sourceText (m .source) contents work)) ≡ none → (index : List ℕ) → prepareAll (filesFrom index contents work old 0 n) ≡ failed (NoTitle (m .file))
+  read-stops =
+      subst (λ (x : Member). titleOf (preparedLines (sourceText (x .source) contents work)) ≡ none → (index : List ℕ) → prepareAll (filesFrom index contents work old 0 n) ≡ failed (NoTitle (x .file)))
+      (sym e) (far-stops f h)
+
+  pub read-next : (o : Outline) → length new ≡ 704 → n ≤ 64 → IsOutline (sourceText (m .source) contents work) o → (v : List ℕ)
+      → v ≡ sets new (11 * i) (numbersOf (record { name = m .name; file = m .file; source = m .source; outline = o })) → SoFar contents work old v (i + 1) n
+  read-next o len few q v p =
+      subst (λ (l : List ℕ). SoFar contents work old l (i + 1) n) (sym (p ∙ ap (λ (x : Member). sets new (11 * i) (numbersOf (withOutline x o))) e))
+      (far-next f h o len few (subst (λ (x : Member). IsOutline (sourceText (x .source) contents work) o) e q))

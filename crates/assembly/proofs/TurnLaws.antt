@@ -37,7 +37,7 @@ use Rattle.emission.specs.Emission.{emittedLines, emittedText}
 use Rattle.assembly.specs.Assemble.{emitAll, readAssembled}
 use Rattle.assembly.specs.declared.Assembled.{Assembled}
 use Rattle.assembly.specs.declared.Assembled.the-variants.{Text, Refused}
-use Rattle.assembly.specs.Parts.{ruleBefore, Running, IsAdded, Added, AddedBehind, AssembledWithin}
+use Rattle.assembly.specs.Parts.{ruleBefore, putAnswer, Running, IsAdded, Added, AddedBehind, AssembledWithin}
 use Rattle.assembly.proofs.EmitLaws.{emitted-ends}
 use Rattle.assembly.proofs.RuleLaws.{ends-some, join-rule, join-some}
 
@@ -100,11 +100,6 @@ module _ {room : Room} {x w v : List ℕ} {n : ℕ} (fits : room .limit ≤ leng
 
   pub written-behind : drop (room .limit) v ≡ drop (room .limit) w
   written-behind = ap (drop (room .limit)) (p .wrote) ∙ drop-past w x (room .at) (room .limit) (omega (arith, p .place, p .below))
-
--- a member's answer from what was put
-abbrev pub putAnswer : ℕ → Put → Assembled
-putAnswer file (To n) = Text n
-putAnswer file Over = Refused (TextLimit (place file 0))
 
 module _ (room : Room) {f : Prepared → Part (List (List ℕ))} {m : Prepared} (i : ℕ) (w : List ℕ) (below : room .at ≤ room .limit) (fits : room .limit ≤ length w) (es : List (List ℕ)) (e : f m ≡ good es) (some : 0 < length es) where
   pub behind-put : (v : List ℕ) (r : Put) → Wrote room (ruleBefore i ++ join LF es) w v r → AddedBehind (room .limit) f m i (take (room .at) w) w v (putAnswer (m .file) r)

@@ -3,7 +3,9 @@ use Prim.Native.Nat.{ℕ, zero, suc, _+_, _≤_, _<_}
 use mathlib.Core.Path.{_≡_}
 use mathlib.Core.List.{List, [], _∷_}
 use lib.ListN.{length, take, drop}
+use Rattle.answer.specs.Answer.{place}
 use Rattle.answer.specs.declared.Refusal.{Refusal}
+use Rattle.answer.specs.declared.Refusal.the-variants.{TextLimit}
 use Rattle.text.specs.Lines.{LF}
 use Rattle.text.specs.Pattern.{bytes}
 use Rattle.text.specs.Split.{join}
@@ -12,6 +14,8 @@ use Rattle.link.specs.Target.{rewriteTarget}
 use Rattle.walk.specs.Parts.{Part}
 use Rattle.walk.specs.Steps.{Steps, failed, refused, judge}
 use Rattle.put.specs.Put.{Inside}
+use Rattle.put.specs.declared.Put.{Put}
+use Rattle.put.specs.declared.Put.the-variants.{To, Over}
 use Rattle.member.specs.Member.{Prepared}
 use Rattle.members.specs.Members.{memberAt, nameOf, filesFrom, AllStand, AllKnown}
 use Rattle.members.specs.declared.Member.{Member}
@@ -63,6 +67,11 @@ emitIn index contents work url set n = emit (titlesIn index contents work set n)
 
 abbrev pub targetIn : List ℕ → List ℕ → List ℕ → List ℕ → List ℕ → ℕ → Member → List ℕ → List ℕ
 targetIn index contents work url set n m = rewriteTarget (titlesIn index contents work set n) url (parentDir (nameOf index m))
+
+-- a member's answer from what was put
+abbrev pub putAnswer : ℕ → Put → Assembled
+putAnswer file (To n) = Text n
+putAnswer file Over = Refused (TextLimit (place file 0))
 
 -- n members are prepared, and a text can be put up to the limit
 pub record CanEmit (index contents set : List ℕ) (n limit : ℕ) (work : List ℕ) : Type 0 where
