@@ -8,3 +8,4 @@ pub mod TurnLaws
 pub mod StandLaws
 pub mod EmittingLaws
 pub mod BehindLaws
+pub mod WholeLaws

@@ -14,7 +14,7 @@ part-prepare-end : tie.Need-part-prepare-end
 part-prepare-end c = omega (arith, rw (c .if1 .taken) at (c .before .before .before .pre .1))
 
 prepare-requires : tie.Need-prepare-requires
-prepare-requires c κs = ?
+prepare-requires c κs = search needs
 
 returns : tie.Need-returns
 returns c = rw (c .before .before .if1 .taken) (c .prepare .ensures)
@@ -29,7 +29,7 @@ part-prepare-end-2 : tie.Need-part-prepare-end-2
 part-prepare-end-2 c = omega (arith, rw (c .if1 .left) at (c .before .before .before .pre .1))
 
 prepare-requires-2 : tie.Need-prepare-requires-2
-prepare-requires-2 c κs = ?
+prepare-requires-2 c κs = search needs
 
 returns-2 : tie.Need-returns-2
 returns-2 c = rw (c .before .before .if1 .left) (c .prepare2 .ensures)

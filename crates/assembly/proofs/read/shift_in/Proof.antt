@@ -14,7 +14,7 @@ part-shift-below-end : tie.Need-part-shift-below-end
 part-shift-below-end c = omega (arith, rw (c .if1 .taken) at (c .before .before .before .pre .0 .1))
 
 shift-below-requires : tie.Need-shift-below-requires
-shift-below-requires c κs = (rw (c .before .if1 .taken) at (c .before .before .before .before .pre .1), ?)
+shift-below-requires c κs = rw (c .before .if1 .taken) at (c .before .before .before .before .pre .1)
 
 returns : tie.Need-returns
 returns c = rw (c .before .before .if1 .taken) (c .shift-below .ensures)
@@ -29,7 +29,7 @@ part-shift-below-end-2 : tie.Need-part-shift-below-end-2
 part-shift-below-end-2 c = omega (arith, rw (c .if1 .left) at (c .before .before .before .pre .0 .1))
 
 shift-below-requires-2 : tie.Need-shift-below-requires-2
-shift-below-requires-2 c κs = (rw (c .before .if1 .left) at (c .before .before .before .before .pre .1), ?)
+shift-below-requires-2 c κs = rw (c .before .if1 .left) at (c .before .before .before .before .pre .1)
 
 returns-2 : tie.Need-returns-2
 returns-2 c = rw (c .before .before .if1 .left) (c .shift-below2 .ensures)
