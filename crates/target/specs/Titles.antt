@@ -1,0 +1,2 @@
+-- The titles of members by their names.
+use Prim.Native.Nat.{ℕ}
