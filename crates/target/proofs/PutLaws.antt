@@ -73,6 +73,10 @@ module _ {title : Source} {room : Room} {c w : List ℕ} (able : Able title room
 pub front : (t : List ℕ) (e : ℕ) → part 0 e t ≡ take e t
 front t e = let n : e - 0 ≡ e = omega arith in rw n
 
+-- the bytes from place e on, up to the end
+pub fragment-is : {source : Source} {room : Room} {c w : List ℕ} → Able source room c w → (e : ℕ) → part e (source .end - source .start) (sourceText source c w) ≡ drop e (sourceText source c w)
+fragment-is {source} {room} {c} {w} able e = ap (λ (i : ℕ). part e i (sourceText source c w)) (sym (source-length able)) ∙ rest (sourceText source c w) e
+
 -- a text of n bytes, put so that it ends n bytes behind the room's place
 pub put-whole : (room : Room) (x w v : List ℕ) (n : ℕ) → n ≡ length x → room .at ≤ room .limit → n ≤ room .limit - room .at → v ≡ sets w (room .at + n - length x) x → Written room x w v (room .at + n)
 put-whole room x w v n e h k q =
@@ -122,5 +126,5 @@ module _ {target : Source} {room : Room} {c w : List ℕ} (able : Able target ro
       pub fragment-put : (x : List ℕ) (r : Put) → Wrote (roomAt room m) (part e (target .end - target .start) (sourceText target c u)) u x r → Wrote room whole w x r
       fragment-put x r h =
           let t : part e (target .end - target .start) (sourceText target c u) ≡ drop e (sourceText target c w) =
-          rw (source-same able pathed) (ap (λ (i : ℕ). part e i (sourceText target c w)) (sym (source-length able)) ∙ rest (sourceText target c w) e) in
+          rw (source-same able pathed) (fragment-is able e) in
           reached-last pathed x r (subst (λ (y : List ℕ). Wrote (roomAt room m) y u x r) t h)

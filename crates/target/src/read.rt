@@ -31,7 +31,7 @@ pub fn resolve_in(
     work: &[u8],
     path: Source,
     dir: &[u8],
-    out: &mut [u8; 256],
+    out: &mut [u8],
 ) -> Resolved
     requires { ⌜ Inside path 0 (length (now contents)) (length (now work)) ⌝ }
     ensures { λ r. ⌜ Resolves (now (dir .entry)) (sourceText path (now (contents .entry)) (now (work .entry))) (now (out .exit)) r ⌝ }
