@@ -25,19 +25,20 @@ use Rattle.heading.proofs.walk.LineKind.{the-type}
 use Rattle.heading.proofs.LevelLaws.{moved-level}
 use Rattle.link.specs.Links.{relink}
 use Rattle.shift.specs.Shift.{Told, atLevel, toldFrom}
-use Rattle.put.specs.Put.{sourceText, Able, Written, Wrote}
+use Rattle.put.specs.Put.{sourceText, partOf, Able, Written, Wrote}
 use Rattle.put.specs.NewText.{newTextAt, newTextOf, KindIn}
 use Rattle.put.specs.declared.Source.{Source}
 use Rattle.put.specs.declared.Room.{Room}
 use Rattle.put.specs.declared.Put.{Put}
 use Rattle.put.specs.declared.line.NewText.{NewText}
 use Rattle.put.proofs.PartLaws.{part-part}
-use Rattle.put.proofs.NewTextLaws.{heading-linked, kind-in}
+use Rattle.put.proofs.NewTextLaws.{heading-linked, kind-in, TextIn, text-in}
 use Rattle.put.proofs.PutLaws.{Reached, roomAt, reached-start, reached-next, reached-over, reached-end, source-length, source-same, able-on}
 use Rattle.member.specs.Member.{movable}
 use Rattle.member.specs.Lines.{keptLines, leftOf, atFirst, CursorIn, IsLine}
 use Rattle.member.specs.declared.lines.LineCursor.{LineCursor}
 use Rattle.member.proofs.LinesLaws.{lines-on}
+use Rattle.emission.proofs.LinkedLaws.{level-over, level-put, text-able, text-put}
 use Rattle.emission.specs.Emission.{emittedLine, emittedText, isTitle, kindAfter, breakBefore, levelOf}
 
 -- a line that is not quoted, by what stands before its text and by its text
@@ -59,6 +60,42 @@ module _ (f : List ℕ → List ℕ) (z : ℤ) (s : List ℕ) (a e : ℕ) where
       go (To (suc m)) y = rw (part-part s a e p q (omega (arith, w))) (heading-linked f (suc m) (part p q (part a e s)))
       go Past y = refl
   line-becomes h Other o w = refl
+
+-- such a line put: a heading's hashes and space or nothing, and then its text
+module _ {source : Source} {room : Room} {c w : List ℕ} (able : Able source room c w) (f : List ℕ → List ℕ) (z : ℤ) (a e : ℕ) (order : a ≤ e) (inside : source .start + e ≤ source .end)
+    (k : LineKind) (o : Open k) (within : KindIn (e - a) k) (new : NewText) (is : new ≡ newTextOf z a e k) where
+  new-in : TextIn a e new
+  new-in = rw is (text-in z a e k within order)
+
+  pub new-level : new .level ≤ 6
+  new-level = new-in .0
+
+  pub new-order : new .start ≤ new .end
+  new-order = new-in .1 .1 .0
+
+  pub new-end : source .start + new .end ≤ source .end
+  new-end = omega (arith, new-in)
+
+  abbrev whole : List ℕ
+  whole = emittedLine f z (record { kind = k; bytes = part a e (sourceText source c w) })
+
+  line-is : levelOf (new .level) ++ relink f (part (new .start) (new .end) (sourceText source c w)) ≡ whole
+  line-is =
+      ap (λ (r : NewText). levelOf (r .level) ++ relink f (part (r .start) (r .end) (sourceText source c w))) is
+      ∙ sym (line-becomes f z (sourceText source c w) a e order k o within)
+
+  pub new-over : room .limit < room .at + length (levelOf (new .level)) → room .limit < room .at + length whole
+  new-over h = subst (λ (x : List ℕ). room .limit < room .at + length x) line-is (level-over able f (new .level) (new .start) (new .end) h)
+
+  module _ (v : List ℕ) (n : ℕ) (q : Written room (levelOf (new .level)) w v n) where
+    pub new-able : Able (partOf source (new .start) (new .end)) (roomAt room n) c v
+    new-able = text-able able f (new .level) (new .start) (new .end) new-order new-end v n q
+
+    pub new-reached : Reached room (levelOf (new .level) ++ relink f (part (new .start) (new .end) (sourceText source c w))) w v n (relink f (part (new .start) (new .end) (sourceText source c w)))
+    new-reached = level-put able f (new .level) (new .start) (new .end) new-order new-end v n q
+
+    pub new-put : {g : List ℕ → List ℕ} → g ≡ f → (u : List ℕ) (r : Put) → Wrote (roomAt room n) (relink g (sourceText (partOf source (new .start) (new .end)) c v)) v u r → Wrote room whole w u r
+    new-put same u r h = subst (λ (x : List ℕ). Wrote room x w u r) line-is (text-put able f (new .level) (new .start) (new .end) new-order new-end v n q same u r h)
 
 -- what a line is, by what it is not
 pub open-line : (k : LineKind) → OneOf (1 ∷ 2 ∷ []) (tagOf the-type k) → Open k
@@ -181,13 +218,15 @@ module _ {source : Source} {room : Room} {c w : List ℕ} (able : Able source ro
         pub broken : Reached room (emittedText f z (sourceText source c w)) w u m (new ++ left)
         broken = reached-next (p .reached) (breakBefore (d .line)) (new ++ left) line-next u m q
 
-        module _ {g : List ℕ → List ℕ} (is : g ≡ f) where
+        module _ {g : List ℕ → List ℕ} (is : g ≡ f) {moved : LineKind} (kind : moved ≡ kindAfter titled k) {y : ℤ} (shift : y ≡ z) where
           abbrev put-now : List ℕ
-          put-now = emittedLine g z (record { kind = kindAfter titled k; bytes = part a e (sourceText source c u) })
+          put-now = emittedLine g y (record { kind = moved; bytes = part a e (sourceText source c u) })
 
           now-new : put-now ≡ new
           now-new =
-              ap (λ (x : List ℕ → List ℕ). emittedLine x z (record { kind = kindAfter titled k; bytes = part a e (sourceText source c u) })) is
+              ap (λ (x : List ℕ → List ℕ). emittedLine x y (record { kind = moved; bytes = part a e (sourceText source c u) })) is
+              ∙ ap (λ (x : ℤ). emittedLine f x (record { kind = moved; bytes = part a e (sourceText source c u) })) shift
+              ∙ ap (λ (x : LineKind). emittedLine f z (record { kind = x; bytes = part a e (sourceText source c u) })) kind
               ∙ ap (λ (x : List ℕ). emittedLine f z (record { kind = kindAfter titled k; bytes = part a e x })) (source-same able broken)
 
           pub line-over : room .limit < m + length put-now → room .limit < room .at + length (emittedText f z (sourceText source c w))
@@ -196,7 +235,7 @@ module _ {source : Source} {room : Room} {c w : List ℕ} (able : Able source ro
           pub putting-on : (t : List ℕ) (n : ℕ) → Written (roomAt room m) put-now u t n → Putting f z source room c w t n b (titled || isTitle k)
           putting-on t n j = record {
             within = let i : b .at ≡ e + 1 = ap (λ (x : LineCursor). x .at) (line .after) in
-            let o : b .line ≡ d .line + 1 = ap (λ (x : LineCursor). x .line) (line .after) in
-            (omega (arith, p .within, line .order, line .forward), omega (arith, line .within));
+                let o : b .line ≡ d .line + 1 = ap (λ (x : LineCursor). x .line) (line .after) in
+                (omega (arith, p .within, line .order, line .forward), omega (arith, line .within));
             reached = reached-next broken new left refl t n (subst (λ (x : List ℕ). Written (roomAt room m) x u t n) now-new j);
           }

@@ -122,7 +122,12 @@ fn put_line(
 fn is_title(kind: LineKind) -> bool
     ensures { λ r. ⌜ r ≡ isTitle kind ⌝ }
 {
-    let LineKind::Heading { level, start: _, end: _ } = kind else {
+    let LineKind::Heading {
+        level,
+        start: _,
+        end: _,
+    } = kind
+    else {
         return false;
     };
     level == 1
@@ -178,7 +183,12 @@ pub fn put_lines(
     let mut c = member::lines::first();
     let mut titled = false;
     loop {
-        let NextLine::Line { start: a, end: e, kind, behind } = read::line_in(contents, work, source, c)
+        let NextLine::Line {
+            start: a,
+            end: e,
+            kind,
+            behind,
+        } = read::line_in(contents, work, source, c)
         else {
             return Put::To(at);
         };
