@@ -4,7 +4,7 @@ use native.Mathlib.Omega.{arith}
 use mathlib.Core.Path.{_≡_, refl, sym, ap, _∙_, subst}
 use mathlib.Core.List.{List, [], _++_}
 use lib.IntN.{ℤ}
-use lib.ListN.{length, take, drop, length-append}
+use lib.ListN.{length, take, drop}
 use lib.Seq.{take-take}
 use Rattle.text.specs.Bytes.{part}
 use Rattle.text.specs.Pattern.{bytes}
@@ -20,8 +20,8 @@ use Rattle.member.specs.Member.{Prepared}
 use Rattle.members.specs.Members.{memberAt, textSource, nameOf}
 use Rattle.members.specs.declared.Member.{Member}
 use Rattle.members.proofs.MembersLaws.{source-on}
-use Rattle.emission.specs.Emit.{titleNamed}
-use Rattle.emission.specs.Emission.{titlesIn, emittedText}
+use Rattle.target.specs.Titles.{titleNamed, titlesIn}
+use Rattle.emission.specs.Emission.{emittedText}
 use Rattle.assembly.specs.Parts.{ruleBefore, targetIn, CanEmit}
 use Rattle.assembly.proofs.StandLaws.{emit-on, members-on, text-able}
 

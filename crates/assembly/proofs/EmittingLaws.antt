@@ -1,5 +1,5 @@
 -- Laws of the loop that emits members one behind the other. Assumes nothing.
-use Prim.Native.Nat.{ℕ, zero, suc, _+_, _-_, _≤_, _<_}
+use Prim.Native.Nat.{ℕ, suc, _+_, _-_, _≤_, _<_}
 use native.Mathlib.Nat.{sub-zero}
 use native.Mathlib.Omega.{arith}
 use mathlib.Core.Path.{_≡_, refl, sym, ap, _∙_, subst}
@@ -10,7 +10,7 @@ use Rattle.answer.specs.Answer.{place}
 use Rattle.answer.specs.declared.Refusal.{Refusal}
 use Rattle.answer.specs.declared.Refusal.the-variants.{HeadingLevel}
 use Rattle.text.specs.Split.{join}
-use Rattle.walk.specs.Outcome.{outcome, refusal}
+use Rattle.walk.specs.Outcome.{outcome}
 use Rattle.walk.specs.Parts.{Part}
 use Rattle.walk.specs.Steps.{Steps, judge}
 use Rattle.put.specs.Put.{sourceText, Wrote}
@@ -24,12 +24,13 @@ use Rattle.shift.specs.declared.level.Shift.{Shift}
 use Rattle.shift.specs.declared.level.Shift.the-variants.{By, PastAt}
 use Rattle.members.specs.Members.{memberAt, textSource, preparedIn, preparedFrom}
 use Rattle.members.specs.declared.Member.{Member}
-use Rattle.emission.specs.Emission.{titlesIn, emittedLines, emittedText}
-use Rattle.assembly.specs.Assemble.{assemblePrepared, emitAll, readAssembled}
-use Rattle.emission.specs.Emit.{titleNamed, emit}
+use Rattle.target.specs.Titles.{titleNamed, titlesIn}
+use Rattle.emission.specs.Emission.{emittedLines, emittedText}
+use Rattle.assembly.specs.Assemble.{assemblePrepared, readAssembled}
+use Rattle.emission.specs.Emit.{emit}
 use Rattle.assembly.specs.declared.Assembled.{Assembled}
 use Rattle.assembly.specs.declared.Assembled.the-variants.{Text, Refused}
-use Rattle.assembly.specs.Parts.{ruleBefore, emitIn, targetIn, putAnswer, CanEmit, Running, IsAdded, Added, AddedBehind}
+use Rattle.assembly.specs.Parts.{ruleBefore, emitIn, targetIn, putAnswer, CanEmit, Running, Added, AddedBehind}
 use Rattle.assembly.proofs.StandLaws.{emit-on, members-on, member-on, emitted-some}
 use Rattle.assembly.proofs.TurnLaws.{emit-good, emit-past, behind-stops, behind-put, last-put}
 

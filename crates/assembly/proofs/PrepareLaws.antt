@@ -13,7 +13,7 @@ use Rattle.answer.specs.declared.Refusal.{Refusal}
 use Rattle.answer.specs.declared.Refusal.the-variants.{NoTitle}
 use Rattle.index.specs.Index.{File}
 use Rattle.walk.specs.Parts.{Part, good, flawed}
-use Rattle.walk.specs.Steps.{Steps, done, failed, go, refused, judge}
+use Rattle.walk.specs.Steps.{done, failed, go, refused, judge}
 use Rattle.put.specs.Put.{sourceText, Inside}
 use Rattle.put.specs.declared.Source.{Source}
 use Rattle.member.specs.Member.{Prepared, preparedLines, titleOf, titled, prepare}

@@ -1,9 +1,9 @@
 -- Laws of members joined by a rule. Assumes nothing.
 use Prim.Native.Nat.{ℕ, zero, suc, _<_}
 use native.Mathlib.Omega.{arith}
-use mathlib.Core.Path.{_≡_, refl, sym, ap, _∙_}
+use mathlib.Core.Path.{_≡_, refl, ap, _∙_}
 use mathlib.Core.List.{List, [], _∷_, _++_}
-use lib.ListN.{length, length-append}
+use lib.ListN.{length}
 use Rattle.text.specs.Lines.{LF, led}
 use Rattle.text.specs.Pattern.{bytes}
 use Rattle.text.specs.Split.{join}

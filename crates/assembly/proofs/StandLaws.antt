@@ -1,24 +1,23 @@
 -- Laws of members that stand in their buffers, and of buffers that change beside them. Assumes nothing.
-use Prim.Native.Nat.{ℕ, _+_, _≤_, _<_}
+use Prim.Native.Nat.{ℕ, _≤_, _<_}
 use native.Mathlib.Omega.{arith}
 use mathlib.Core.Path.{_≡_, sym, ap, _∙_, subst}
 use mathlib.Core.Bool.{Bool, true, false}
 use mathlib.Core.List.{List}
 use mathlib.Core.Option.{Option}
 use lib.ListN.{length, take, drop}
-use Rattle.shift.specs.Shift.{kindsOf}
 use Rattle.shift.specs.Levels.{AreLevels}
 use Rattle.put.specs.Put.{sourceText, Held, Inside, Able}
 use Rattle.put.specs.declared.Source.{Source}
 use Rattle.put.proofs.PutLaws.{able-part, inside-any}
 use Rattle.walk.specs.Parts.{good}
-use Rattle.member.specs.Member.{Prepared, movable, prepare}
+use Rattle.member.specs.Member.{prepare}
 use Rattle.member.specs.Outline.{IsOutline, movedKinds}
-use Rattle.members.specs.Members.{memberAt, textSource, fileIn, preparedIn, preparedFrom, Lies, Stands, AllLie, AllStand, AllKnown}
+use Rattle.members.specs.Members.{memberAt, textSource, fileIn, preparedIn, preparedFrom, Stands, AllLie, AllStand, AllKnown}
 use Rattle.members.specs.declared.Member.{Member}
 use Rattle.members.proofs.MembersLaws.{source-up, source-on, text-part, prepared-same, prepared-on, prepares}
 use Rattle.emission.specs.Emit.{emit}
-use Rattle.assembly.specs.Parts.{CanPrepare, emitIn, CanEmit}
+use Rattle.assembly.specs.Parts.{CanPrepare, CanEmit}
 use Rattle.assembly.proofs.EmitLaws.{emitted-ends}
 use Rattle.assembly.proofs.RuleLaws.{ends-some}
 

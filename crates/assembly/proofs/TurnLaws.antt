@@ -1,45 +1,40 @@
 -- Laws of one member emitted behind those before it, and of the last LF. Assumes nothing.
-use Prim.Native.Nat.{ℕ, zero, suc, _+_, _≤_, _<_}
+use Prim.Native.Nat.{ℕ, _+_, _≤_, _<_}
 use native.Mathlib.Omega.{arith}
-use mathlib.Core.Path.{_≡_, refl, sym, ap, _∙_}
-use mathlib.Core.Bool.{true, false}
-use mathlib.Core.List.{List, [], _∷_, _++_, map}
+use mathlib.Core.Path.{_≡_, sym, ap, _∙_}
+use mathlib.Core.List.{List, [], _∷_, _++_}
 use mathlib.Core.Option.{Option}
 use borrow.Author.Tests.{le-leb, lt-leb}
 use lib.IntN.{ℤ}
 use lib.ListN.{length, take, drop, length-append}
-use lib.Seq.{sets, length-take-le}
+use lib.Seq.{length-take-le}
 use Rattle.answer.specs.Answer.{place}
 use Rattle.answer.specs.declared.Refusal.{Refusal}
 use Rattle.answer.specs.declared.Refusal.the-variants.{HeadingLevel, TextLimit}
 use Rattle.buffer.proofs.BufferLaws.{take-sets, drop-past}
 use Rattle.text.specs.Lines.{LF}
 use Rattle.text.specs.Split.{join}
-use Rattle.heading.specs.Level.{anyPast, firstPast}
 use Rattle.path.specs.Path.{parentDir}
 use Rattle.link.specs.Target.{rewriteTarget}
-use Rattle.walk.specs.Outcome.{text, refusal, outcome}
+use Rattle.walk.specs.Outcome.{text, outcome}
 use Rattle.walk.specs.Parts.{Part, good, flawed}
 use Rattle.walk.specs.Steps.{Steps, go, given, refused, judge}
-use Rattle.shift.specs.Shift.{shiftFor, kindsOf}
+use Rattle.shift.specs.Shift.{shiftFor}
 use Rattle.shift.specs.declared.level.Shift.the-variants.{By, PastAt}
 use Rattle.shift.proofs.ShiftLaws.{past-none, past-some}
 use Rattle.put.specs.Put.{Written, Wrote}
 use Rattle.put.specs.declared.Room.{Room}
 use Rattle.put.specs.declared.Put.{Put}
 use Rattle.put.specs.declared.Put.the-variants.{To, Over}
-use Rattle.member.specs.Member.{Prepared, movable, prepare}
+use Rattle.member.specs.Member.{Prepared}
 use Rattle.member.specs.Lines.{keptLines}
 use Rattle.member.specs.Outline.{movedKinds, ShiftBelow}
-use Rattle.index.specs.Index.{File}
 use Rattle.emission.specs.Emit.{emit, joinLines}
-use Rattle.emission.specs.Emission.{emittedLines, emittedText}
+use Rattle.emission.specs.Emission.{emittedLines}
 use Rattle.assembly.specs.Assemble.{emitAll, readAssembled}
-use Rattle.assembly.specs.declared.Assembled.{Assembled}
 use Rattle.assembly.specs.declared.Assembled.the-variants.{Text, Refused}
-use Rattle.assembly.specs.Parts.{ruleBefore, putAnswer, Running, IsAdded, Added, AddedBehind, AssembledWithin}
-use Rattle.assembly.proofs.EmitLaws.{emitted-ends}
-use Rattle.assembly.proofs.RuleLaws.{ends-some, join-rule, join-some}
+use Rattle.assembly.specs.Parts.{ruleBefore, putAnswer, Running, AddedBehind, AssembledWithin}
+use Rattle.assembly.proofs.RuleLaws.{join-rule, join-some}
 
 -- ---- one member, by whether a heading goes past level 6
 

@@ -4,7 +4,6 @@ use mathlib.Core.Path.{_≡_}
 use mathlib.Core.List.{List, [], _∷_}
 use lib.ListN.{length, take, drop}
 use Rattle.answer.specs.Answer.{place}
-use Rattle.answer.specs.declared.Refusal.{Refusal}
 use Rattle.answer.specs.declared.Refusal.the-variants.{TextLimit}
 use Rattle.text.specs.Lines.{LF}
 use Rattle.text.specs.Pattern.{bytes}
@@ -19,8 +18,8 @@ use Rattle.put.specs.declared.Put.the-variants.{To, Over}
 use Rattle.member.specs.Member.{Prepared}
 use Rattle.members.specs.Members.{memberAt, nameOf, filesFrom, AllStand, AllKnown}
 use Rattle.members.specs.declared.Member.{Member}
+use Rattle.target.specs.Titles.{titlesIn}
 use Rattle.emission.specs.Emit.{emit}
-use Rattle.emission.specs.Emission.{titlesIn}
 use Rattle.assembly.specs.Assemble.{prepareAll, emitAll}
 use Rattle.assembly.specs.declared.Assembled.{Assembled}
 use Rattle.assembly.specs.declared.Assembled.the-variants.{Text, Refused}

@@ -173,16 +173,8 @@ fn emit_all(
     let mut file = 0;
     let mut i = 0;
     while i < count {
-        match emit(
-            index,
-            contents,
-            url,
-            set,
-            count,
-            i,
-            Room { at, limit },
-            work,
-        ) {
+        let room = Room { at, limit };
+        match emit(index, contents, url, set, count, i, room, work) {
             Assembled::Text(len) => {
                 at = len;
             }

@@ -1,5 +1,4 @@
 -- `emit` meets its contract. Assumes nothing.
-use native.Mathlib.Omega.{arith}
 use mathlib.Core.Path.{_≡_, sym, subst}
 use lib.ListN.{length}
 use Rattle.heading.proofs.LevelLaws.{shift-kept}

@@ -1,8 +1,6 @@
 -- `emit_all` meets its contract. Assumes nothing.
 use Prim.Native.Nat.{_-_}
 use native.Mathlib.Omega.{arith}
-use mathlib.Core.Path.{sym, ap, _∙_}
-use lib.ListN.{length}
 use borrow.Author.Needs.{needs}
 use Rattle.assembly.proofs.EmittingLaws.{Emitting, emitting-start, emitting-able, emitting-next, emitting-stops, emitting-last}
 use Rattle.assembly.proofs.TurnLaws.{put-within}
@@ -10,10 +8,10 @@ use Rattle.assembly.proofs.emit_all.Statement.{statement}
 use Rattle.assembly.proofs.emit_all.Tie as tie
 
 abbrev Inv-loop : tie.InvT-loop
-Inv-loop index contents url set count limit work₀ at₀ file₀ i₀ t14 work at file i = Emitting index contents url set count limit work₀ work at file i
+Inv-loop index contents url set count limit work₀ at₀ file₀ i₀ t15 work at file i = Emitting index contents url set count limit work₀ work at file i
 
 abbrev μ-loop : tie.MeasureT-loop
-μ-loop index contents url set count limit work₀ at₀ file₀ i₀ t14 work at file i = count - i
+μ-loop index contents url set count limit work₀ at₀ file₀ i₀ t15 work at file i = count - i
 
 loop-holds : tie.Need-loop-holds Inv-loop μ-loop
 loop-holds c = let s = c .before .before .before .before in emitting-start (s .args .index .now) (s .args .contents .now) (s .args .url .now) (s .args .set .now) (s .args .count) (s .args .limit) (s .args .work .now)

@@ -7,12 +7,10 @@ use Rattle.emission.specs.Emission.{emittedText}
 use Prim.Native.Nat.{ℕ, _+_}
 use mathlib.Core.List.{List, _++_}
 use native.Mathlib.Omega.{arith}
-use mathlib.Core.Path.{_≡_, sym, ap, _∙_, subst}
+use mathlib.Core.Path.{_≡_, sym, subst}
 use lib.ListN.{length, length-append}
 use Rattle.members.specs.Members.{memberAt, Stands}
 use Rattle.members.specs.declared.Member.{Member}
-use Rattle.put.specs.Put.{Written, Able}
-use Rattle.put.specs.declared.Source.{Source}
 use Rattle.assembly.proofs.BehindLaws.{dir-part, rule-able, rule-text, rule-lines}
 use borrow.Author.Needs.{needs}
 use Rattle.assembly.proofs.put_behind.Statement.{statement}
@@ -79,11 +77,8 @@ part-put-lines-end c = omega (arith, stands-at (c .before .before .before .befor
 put-lines-requires : tie.Need-put-lines-requires
 put-lines-requires c κs = let s = c .before .before .before .before .before .before .before .before .before .before .before .before .before .before .before .before .before .before in
     let p = rw (c .before .before .before .before .before .before .before .before .at .given .1) at (c .before .before .before .before .before .before .before .before .before .before .before .before .put-rule .ensures) in (
-      (
-        rule-text (s .args .room) (s .args .work .now) (s .pre .0) (s .args .i) (s .pre .1 .0) (s .pre .1 .1 .1) _ (c .before .before .before .before .before .before .before .before .at .given .0 .0) p (c .before .before .before .before .before .before .member-at .result) (c .before .before .before .before .before .before .member-at .ensures) (c .before .before .text-of .result) (c .before .before .text-of .ensures),
-        (rule-able (s .args .room) (s .args .work .now) (s .pre .0) (s .args .i) (s .pre .1 .0) (s .pre .1 .1 .1) _ (c .before .before .before .before .before .before .before .before .at .given .0 .0) p .stand, rw (shift-kept (s .args .shift) (s .pre .1 .1 .0)) (s .pre .1 .1 .0)),
-      ),
-      ?,
+      rule-text (s .args .room) (s .args .work .now) (s .pre .0) (s .args .i) (s .pre .1 .0) (s .pre .1 .1 .1) _ (c .before .before .before .before .before .before .before .before .at .given .0 .0) p (c .before .before .before .before .before .before .member-at .result) (c .before .before .before .before .before .before .member-at .ensures) (c .before .before .text-of .result) (c .before .before .text-of .ensures),
+      (rule-able (s .args .room) (s .args .work .now) (s .pre .0) (s .args .i) (s .pre .1 .0) (s .pre .1 .1 .1) _ (c .before .before .before .before .before .before .before .before .at .given .0 .0) p .stand, rw (shift-kept (s .args .shift) (s .pre .1 .1 .0)) (s .pre .1 .1 .0)),
     )
 
 same-length-2 : tie.Need-same-length-2

@@ -1,7 +1,5 @@
 -- `put_rule` meets its contract. Assumes nothing.
 use Rattle.assembly.proofs.BehindLaws.{rule-none, rule-some}
-use Prim.Native.Nat.{zero, suc}
-use native.Mathlib.Omega.{arith}
 use borrow.Author.Needs.{needs}
 use Rattle.assembly.proofs.put_rule.Statement.{statement}
 use Rattle.assembly.proofs.put_rule.Tie as tie
