@@ -85,6 +85,9 @@ module _ {index contents set : List ℕ} {n limit : ℕ} {w : List ℕ} (e : Can
     member-on v q = prepared-same index contents v w (memberAt set i) (e .stand .stand i h)
         (source-on (memberAt set i .source) limit (length contents) (length w) contents v w (e .stand .stand i h .lies .inside) q)
 
+    pub member-stands : (m : Member) → m ≡ memberAt set i → Stands (length index) (length contents) limit (length w) m
+    member-stands m q = subst (Stands (length index) (length contents) limit (length w)) (sym q) (e .stand .stand i h)
+
     pub text-able : (at : ℕ) → at ≤ limit → Able (textSource (memberAt set i)) (record { at = at; limit = limit }) contents w
     text-able at k =
         let s = e .stand .stand i h in

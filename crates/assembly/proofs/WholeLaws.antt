@@ -7,7 +7,7 @@ use lib.ListN.{length, take}
 use Rattle.answer.specs.declared.Place.{Place}
 use Rattle.answer.specs.declared.Refusal.{Refusal}
 use Rattle.answer.specs.declared.Refusal.the-variants.{SharedAnchor}
-use Rattle.walk.specs.Outcome.{outcome, refusal}
+use Rattle.walk.specs.Outcome.{Outcome, refusal, outcome}
 use Rattle.walk.specs.Steps.{failed, judge}
 use Rattle.member.specs.Member.{Prepared}
 use Rattle.members.specs.Members.{filesFrom, preparedFrom, AllLie, AllStand}
@@ -38,8 +38,9 @@ module _ {index : List ℕ} {contents : List ℕ} {limit table : ℕ} {old new :
     pub whole-emit : limit ≤ table → table ≤ length v → CanEmit index contents new n limit v
     whole-emit h l = can-emit index contents new n limit table v w (prepared-stand a p) (p .known) same h l
 
-    pub whole-goes : (url : List ℕ) → sharedFrom [] (preparedFrom index contents w new 0 n) ≡ []
-        → (B L k : ℕ) → judge B L k (assemblePrepared url (preparedFrom index contents v new 0 n)) ≡ judge B L k (assemble url (filesFrom index contents w old 0 n))
-    whole-goes url e B L k =
-        ap (λ (ms : List Prepared). judge B L k (assemblePrepared url ms)) (prepared-up contents v w 0 n (omega arith) (prepared-stand a p) same)
-        ∙ sym (assemble-goes B L k url (filesFrom index contents w old 0 n) (preparedFrom index contents w new 0 n) (prepared-all a p) e)
+    pub whole-goes : (url : List ℕ) → sharedFrom [] (preparedFrom index contents w new 0 n) ≡ [] → (B L k : ℕ) (o : Outcome)
+        → o ≡ outcome (judge B L k (assemblePrepared url (preparedFrom index contents v new 0 n))) → o ≡ outcome (judge B L k (assemble url (filesFrom index contents w old 0 n)))
+    whole-goes url e B L k o q =
+        q
+        ∙ ap (λ (ms : List Prepared). outcome (judge B L k (assemblePrepared url ms))) (prepared-up contents v w 0 n (omega arith) (prepared-stand a p) same)
+        ∙ sym (ap outcome (assemble-goes B L k url (filesFrom index contents w old 0 n) (preparedFrom index contents w new 0 n) (prepared-all a p) e))

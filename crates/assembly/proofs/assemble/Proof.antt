@@ -1,8 +1,6 @@
 -- `assemble` meets its contract. Assumes nothing.
 use native.Mathlib.Omega.{arith}
-use mathlib.Core.Path.{ap, _∙_}
 use lib.ListN.{length}
-use Rattle.walk.specs.Outcome.{outcome}
 use Rattle.assembly.proofs.StandLaws.{can-prepare}
 use Rattle.assembly.proofs.WholeLaws.{whole-stops, compare-stand, whole-shares, whole-emit, whole-goes}
 use borrow.Author.Needs.{needs}
@@ -40,7 +38,7 @@ returns : tie.Need-returns
 returns c = let s = c .before .before .before .before .before .before .before .before .before .before .before .before .before .before .before .before .before .before .before .before .before in
     let p = rw (c .before .before .before .before .before .before .before .before .before .before .before .before .enum-told .given .1) at (c .before .before .before .before .before .before .before .before .before .before .before .before .before .before .prepare-all .ensures) in
     let q = rw (c .before .before .before .before .before .enum-told2 .given .1) at (c .before .before .before .before .before .before .before .before .before .compare .ensures .0) in
-    ((λ B n. c .before .before .emit-all .ensures .0 B n ∙ ap outcome (whole-goes (s .pre .0) p (c .before .before .before .before .before .before .before .before .before .compare .last .1 .1 .1 .1 .1 .1 .0) (c .before .before .before .before .before .before .before .before .before .compare .ensures .1) (s .args .url .now) q B (s .args .limit) n)), c .before .before .emit-all .ensures .1)
+    ((λ B n. whole-goes (s .pre .0) p (c .before .before .before .before .before .before .before .before .before .compare .last .1 .1 .1 .1 .1 .1 .0) (c .before .before .before .before .before .before .before .before .before .compare .ensures .1) (s .args .url .now) q B (s .args .limit) n _ (c .before .before .emit-all .ensures .0 B n)), c .before .before .emit-all .ensures .1)
 
 same-length-2 : tie.Need-same-length-2
 same-length-2 c = search needs

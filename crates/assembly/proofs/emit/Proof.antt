@@ -1,25 +1,16 @@
 -- `emit` meets its contract. Assumes nothing.
-use mathlib.Core.Path.{_≡_, sym, subst}
-use lib.ListN.{length}
 use Rattle.heading.proofs.LevelLaws.{shift-kept}
-use Rattle.members.specs.Members.{memberAt, Stands}
-use Rattle.members.specs.declared.Member.{Member}
-use Rattle.assembly.proofs.StandLaws.{shift-ready}
+use Rattle.assembly.proofs.StandLaws.{member-stands, shift-ready}
 use Rattle.assembly.proofs.EmittingLaws.{behind-past, behind-lines}
 use borrow.Author.Needs.{needs}
 use Rattle.assembly.proofs.emit.Statement.{statement}
 use Rattle.assembly.proofs.emit.Tie as tie
 
-stands-at : (s : tie.Start) (m : Member) → m ≡ memberAt (s .args .set .now) (s .args .i) → Stands (length (s .args .index .now)) (length (s .args .contents .now)) (s .args .room .limit) (length (s .args .work .now)) m
-stands-at s m e =
-    subst (λ (x : Member). Stands (length (s .args .index .now)) (length (s .args .contents .now)) (s .args .room .limit) (length (s .args .work .now)) x) (sym e)
-    (s .pre .0 .stand .stand (s .args .i) (s .pre .1 .0))
-
 member-at-requires : tie.Need-member-at-requires
 member-at-requires c κs = search needs
 
 text-of-requires : tie.Need-text-of-requires
-text-of-requires c κs = stands-at (c .before .before .before .before .before .before .before .before) (c .before .before .before .member-at .result) (c .before .before .before .member-at .ensures) .text
+text-of-requires c κs = member-stands (c .before .before .before .before .before .before .before .before .pre .0) (c .before .before .before .before .before .before .before .before .args .i) (c .before .before .before .before .before .before .before .before .pre .1 .0) (c .before .before .before .member-at .result) (c .before .before .before .member-at .ensures) .text
 
 shift-in-requires : tie.Need-shift-in-requires
 shift-in-requires c κs = let s = c .before .before .before .before .before .before .before .before .before in shift-ready (s .pre .0) (s .args .i) (s .pre .1 .0) (c .before .before .before .before .member-at .result) (c .before .before .before .before .member-at .ensures) (c .text-of .result) (c .text-of .ensures)
