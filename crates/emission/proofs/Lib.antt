@@ -1,0 +1,2 @@
+pub mod LinkedLaws
+pub mod EmittedLaws
