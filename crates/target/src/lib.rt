@@ -27,9 +27,9 @@ fn find_member(index: &[u8], set: &[usize; 704], count: usize, name: &[u8]) -> F
     requires { ⌜ Named (now index) (now set) count ⌝ }
     ensures { λ r. ⌜ FoundMember (now (index .entry)) (now (set .entry)) count (now (name .entry)) r ⌝ }
 {
-    let mut k = count;
-    while 0 < k {
-        k -= 1;
+    let mut left = count;
+    while 0 < left {
+        let k = left - 1;
         let m = members::member_at(set, k);
         let other = m.name;
         let a = other.start;
@@ -37,6 +37,7 @@ fn find_member(index: &[u8], set: &[usize; 704], count: usize, name: &[u8]) -> F
         if pattern::equals(name, &index[a..e]) {
             return Found::At(k);
         }
+        left -= 1;
     }
     Found::Nothing
 }
