@@ -26,7 +26,7 @@ use Rattle.member.specs.Member.{Prepared}
 use Rattle.members.specs.Members.{memberAt, nameOf, titleSource, preparedFrom, preparedIn, Stands, AllStand}
 use Rattle.members.specs.declared.Member.{Member}
 use Rattle.members.proofs.MembersLaws.{prepared-more, prepared-on}
-use Rattle.target.proofs.PutLaws.{front}
+use Rattle.pointer.proofs.PutLaws.{front}
 use Rattle.target.specs.Titles.{titleNamed, titlesIn, Named, FoundMember, TitleIn, inside}
 
 -- one more member at the end
