@@ -3,9 +3,8 @@ use Prim.Native.Nat.{_<_}
 use lib.ListN.{length}
 use Prim.Native.Nat.{_-_}
 use native.Mathlib.Omega.{arith}
-use lib.ListN.{length-set}
 use borrow.Author.Needs.{needs}
-use Rattle.put.proofs.PutLaws.{reached-length, able-on, able-read, inside-any}
+use Rattle.put.proofs.PutLaws.{reached-length, able-read, inside-any}
 use Rattle.pointer.proofs.PutLaws.{Anchoring, anchoring-start, anchor-over, anchor-byte, anchor-within, anchor-end, anchor-less, anchor-on}
 use Rattle.pointer.proofs.put_anchor.Statement.{statement}
 use Rattle.pointer.proofs.put_anchor.Tie as tie

@@ -4,7 +4,6 @@ use native.Mathlib.Omega.{arith}
 use lib.ListN.{length}
 use Rattle.put.proofs.PutLaws.{inside-any}
 use Rattle.path.specs.Path.{resolve}
-use Rattle.put.specs.Put.{sourceText}
 use Rattle.pointer.proofs.PutLaws.{put-whole}
 use borrow.Author.Needs.{needs}
 use Rattle.pointer.proofs.put_path.Statement.{statement}

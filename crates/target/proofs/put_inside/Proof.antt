@@ -1,5 +1,5 @@
 -- `target::put_inside` meets its contract. Assumes nothing.
-use Rattle.put.specs.Put.{sourceText, Wrote}
+use Rattle.put.specs.Put.{sourceText}
 use Rattle.members.specs.Members.{memberAt, titleSource}
 use Rattle.pointer.proofs.PutLaws.{fragment-is}
 use Rattle.put.proofs.PutLaws.{source-length}
