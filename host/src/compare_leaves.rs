@@ -166,7 +166,6 @@ fn run(options: &Options) -> Outcome {
     let mut run = Run::new(options.seed);
     let mut cases = [0; PARTS];
     cases[0] += levels::check_all()?;
-    cases[3] += links::check_all()?;
     cases[6] += lines::check_all()?;
     while more(cases.iter().sum()) {
         let least = (0..PARTS).min_by_key(|&part| cases[part]).unwrap_or(0);

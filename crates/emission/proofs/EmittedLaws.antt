@@ -30,7 +30,7 @@ use Rattle.put.specs.declared.Source.{Source}
 use Rattle.put.specs.declared.Room.{Room}
 use Rattle.put.specs.declared.Put.{Put}
 use Rattle.put.specs.declared.line.NewText.{NewText}
-use Rattle.put.proofs.PartLaws.{part-part}
+use Rattle.text.proofs.PartLaws.{part-part}
 use Rattle.put.proofs.NewTextLaws.{heading-linked, kind-in, TextIn, text-in}
 use Rattle.put.proofs.PutLaws.{Reached, roomAt, reached-start, reached-next, reached-over, reached-end, source-length, source-same}
 use Rattle.member.specs.Member.{movable}

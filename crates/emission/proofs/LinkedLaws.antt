@@ -4,7 +4,7 @@ use native.Mathlib.Omega.{arith}
 use mathlib.Core.Path.{_≡_, refl, sym, ap, subst, _∙_}
 use mathlib.Core.List.{List, [], _∷_, _++_}
 use mathlib.Core.Option.{Option}
-use lib.ListN.{length, drop, set, length-append}
+use lib.ListN.{length, drop, set}
 use Rattle.text.specs.Bytes.{part}
 use Rattle.text.specs.Lines.{LF}
 use Rattle.text.proofs.BytesLaws.{rest}
@@ -12,6 +12,7 @@ use Rattle.heading.specs.Level.{headingLine}
 use Rattle.link.specs.Links.{relink, FoundLink}
 use Rattle.link.specs.Target.{rewriteTarget}
 use Rattle.link.specs.declared.links.NextLink.the-variants.{Link, NoLink}
+use Rattle.link.proofs.LinkLaws.{link-long}
 use Rattle.put.specs.Put.{sourceText, partOf, Able, Written, Wrote}
 use Rattle.put.specs.declared.Source.{Source}
 use Rattle.put.specs.declared.Room.{Room}
@@ -21,14 +22,6 @@ use Rattle.members.specs.Members.{AllStand}
 use Rattle.target.specs.Titles.{titlesIn}
 use Rattle.target.proofs.TitleLaws.{titles-on}
 use Rattle.emission.specs.Emission.{breakBefore, levelOf}
-
--- a link takes bytes, since it can become any text
-link-long : (l : List ℕ) (i a e : ℕ) → FoundLink l i (Link a e) → i < e
-link-long l i a e h =
-    let f : List ℕ → List ℕ = λ t. 0 ∷ [] in
-    let d : e ≡ i → ⊥ =
-    λ q. omega (arith, ap length (h .1 f), length-append (part i a l) (0 ∷ relink f (drop e l)), ap (λ (k : ℕ). length (relink f (drop k l))) q) in
-    omega (arith, h .0)
 
 -- members and their titles stay what they were while the work buffer is written below the limit
 module _ {index : List ℕ} (c : List ℕ) {w set : List ℕ} {count : ℕ} {room : Room} (all : AllStand index (length c) (room .limit) (length w) set count)

@@ -7,20 +7,12 @@ use mathlib.Core.List.{List, [], _∷_, _++_, append-assoc}
 use lib.ListN.{length, drop, length-append}
 use Rattle.text.specs.Bytes.{part}
 use Rattle.text.proofs.BytesLaws.{part-full}
-use Rattle.put.proofs.PartLaws.{part-join, part-rest, part-drop}
+use Rattle.text.proofs.PartLaws.{part-join, part-rest, part-drop}
 use Rattle.link.specs.Links.{relink, FoundLink}
 use Rattle.link.specs.Target.{anchorSelf}
 use Rattle.link.specs.declared.links.NextLink.the-variants.{Link, NoLink}
 use Rattle.insertion.specs.Parts.{linkedText, FoundCut}
 use Rattle.insertion.specs.declared.cut.Cut.the-variants.{Bytes, NoCut}
-
--- a link takes bytes, since it can become any text
-pub link-long : (l : List ℕ) (i a e : ℕ) → FoundLink l i (Link a e) → i < e
-link-long l i a e h =
-    let f : List ℕ → List ℕ = λ t. 0 ∷ [] in
-    let d : e ≡ i → ⊥ =
-    λ q. omega (arith, ap length (h .1 f), length-append (part i a l) (0 ∷ relink f (drop e l)), ap (λ (k : ℕ). length (relink f (drop k l))) q) in
-    omega arith
 
 -- the bytes passed stay as they are
 pub record Passed (host dir l : List ℕ) (from i : ℕ) : Type 0 where

@@ -31,7 +31,7 @@ use Rattle.put.specs.declared.Room.{Room}
 use Rattle.put.specs.declared.Put.{Put}
 use Rattle.insertion.specs.declared.line.LineStep.{LineStep}
 use Rattle.put.specs.declared.line.NewText.{NewText}
-use Rattle.put.proofs.PartLaws.{part-part}
+use Rattle.text.proofs.PartLaws.{part-part}
 use Rattle.put.proofs.NewTextLaws.{heading-linked, kind-in, TextIn, text-in}
 use Rattle.put.proofs.PutLaws.{Reached, roomAt, reached-start, reached-next, reached-over, reached-last, reached-end, source-length, source-same, part-same, able-part, able-on}
 

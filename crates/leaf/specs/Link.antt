@@ -1,6 +1,6 @@
 -- The answers of the leaf calls on links and on the file set as six numbers. Assumes nothing: these are definitions.
 use Prim.Native.Nat.{ℕ, min, _≤_}
-use mathlib.Core.Bool.{Bool, cond}
+use mathlib.Core.Bool.{cond}
 use mathlib.Core.List.{List, [], _∷_}
 use mathlib.Core.Path.{_≡_}
 use lib.ListN.{length, drop}
@@ -11,13 +11,11 @@ use Rattle.answer.specs.declared.Answer.the-variants.{Accepted, Refused as Refu
 use Rattle.fileset.specs.declared.check.Checked.{Checked}
 use Rattle.fileset.specs.declared.check.Checked.the-variants.{Passed, Refused}
 use Rattle.link.specs.Links.{FoundLink}
-use Rattle.link.specs.Target.{anchorSelf, Becomes}
+use Rattle.link.specs.Target.{anchorSelf}
 use Rattle.link.specs.declared.links.NextLink.{NextLink}
 use Rattle.link.specs.declared.links.NextLink.the-variants.{Link, NoLink}
 use Rattle.link.specs.declared.target.Target.{Target}
 use Rattle.link.specs.declared.target.Target.the-variants.{Untouched, Path}
-use Rattle.link.specs.declared.target.NewTarget.{NewTarget}
-use Rattle.link.specs.declared.target.NewTarget.the-variants.{From, Title, Outside}
 use Rattle.leaf.specs.Leaf.{one}
 
 -- a text at the front of an output that has room for it
@@ -45,17 +43,6 @@ pub record SelfAnswer (host dir target : List ℕ) (answer : List ℕ) : Type 0 
 abbrev pub targetNumbers : Target → List ℕ
 targetNumbers Untouched = one 0
 targetNumbers (Path e) = 1 ∷ e ∷ 0 ∷ 0 ∷ 0 ∷ 0 ∷ []
-
--- what a path becomes: 0 and the place from which on its bytes stay, 1 for the title, 2 and the path's end
-abbrev pub newNumbers : NewTarget → List ℕ
-newNumbers (From a) = 0 ∷ a ∷ 0 ∷ 0 ∷ 0 ∷ 0 ∷ []
-newNumbers Title = one 1
-newNumbers (Outside e) = 2 ∷ e ∷ 0 ∷ 0 ∷ 0 ∷ 0 ∷ []
-
-pub record NewAnswer (target : List ℕ) (end : ℕ) (member : Bool) (answer : List ℕ) : Type 0 where
-  pub new : NewTarget
-  pub becomes : Becomes target (min end (length target)) member new
-  pub same : answer ≡ newNumbers new
 
 -- checks passed: six zeros; else the refusal's numbers
 abbrev pub checkNumbers : Checked → List ℕ

@@ -1,9 +1,8 @@
 // Links and targets as numbers, and numbers as places.
 ghost use mathlib.Core.Path.{_≡_};
 ghost use Prim.Native.Nat.{min};
-ghost use Rattle.leaf.specs.Link.{linkNumbers, targetNumbers, newNumbers};
+ghost use Rattle.leaf.specs.Link.{linkNumbers, targetNumbers};
 use link::links::NextLink;
-use link::target::NewTarget;
 use link::target::Target;
 
 pub fn of_link(found: NextLink) -> [u64; 6]
@@ -21,16 +20,6 @@ pub fn of_target(found: Target) -> [u64; 6]
     match found {
         Target::Untouched => [0, 0, 0, 0, 0, 0],
         Target::Path(end) => [1, end as u64, 0, 0, 0, 0],
-    }
-}
-
-pub fn of_new(new: NewTarget) -> [u64; 6]
-    ensures { λ r. ⌜ r ≡ newNumbers new ⌝ }
-{
-    match new {
-        NewTarget::From(at) => [0, at as u64, 0, 0, 0, 0],
-        NewTarget::Title => [1, 0, 0, 0, 0, 0],
-        NewTarget::Outside(end) => [2, end as u64, 0, 0, 0, 0],
     }
 }
 

@@ -5,8 +5,8 @@ ghost use Rattle.text.specs.Bytes.{bit};
 ghost use Rattle.text.specs.Pattern.{equals as equalsTo};
 ghost use Rattle.path.specs.Path.{parentDir, resolve};
 ghost use Rattle.link.specs.Target.{targetOf, trimSlashes};
-ghost use Rattle.leaf.specs.Leaf.{one, isOn};
-ghost use Rattle.leaf.specs.Link.{written, NextAnswer, SelfAnswer, targetNumbers, NewAnswer};
+ghost use Rattle.leaf.specs.Leaf.{one};
+ghost use Rattle.leaf.specs.Link.{written, NextAnswer, SelfAnswer, targetNumbers};
 use leaf::number;
 use link::links;
 use link::target;
@@ -61,16 +61,6 @@ pub extern "C" fn leaf_target(target: &[u8], answer: &mut [u64; 6])
 {
     let found = target::read_target(target);
     *answer = leaf::links::of_target(found);
-}
-
-// What a target becomes whose path ends at a place, where it names a member or not: 0 and the place from which on its bytes stay, 1 for the member's
-// title, or 2 and the place where its path ends.
-#[no_mangle]
-pub extern "C" fn leaf_rewrite(target: &[u8], end: u64, member: u64, answer: &mut [u64; 6])
-    ensures { λ _. ⌜ NewAnswer (now (target .entry)) end (isOn member) (now (answer .exit)) ⌝ }
-{
-    let new = target::rewrite_target(target, leaf::links::at_most(end, target.len()), member != 0);
-    *answer = leaf::links::of_new(new);
 }
 
 // From which place on a target's bytes stay in a file that is taken into a host.

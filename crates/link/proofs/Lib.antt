@@ -1,4 +1,3 @@
 pub mod LinkLaws
-pub mod RunLaws
 pub mod TargetLaws
 pub mod Checks

@@ -2,10 +2,10 @@
 use Prim.Native.Nat.{ℕ, suc, _+_, _-_, _≤_, _<_}
 use native.Mathlib.Nat.{le-of-suc-le-suc, not-suc-le-zero}
 use native.Mathlib.Omega.{arith}
-use mathlib.Core.Path.{_≡_, refl, sym, _∙_, subst}
+use mathlib.Core.Path.{_≡_, refl, sym, ap, _∙_, subst}
 use mathlib.Core.Bool.{Bool, true, false, cond}
 use mathlib.Core.List.{List, [], _∷_, _++_, append-nil}
-use lib.ListN.{length, take, drop, length-drop, take-append-drop}
+use lib.ListN.{length, take, drop, length-drop, length-append, take-append-drop}
 use lib.Seq.{append-snoc, drop-drop}
 use lib.Dec.{eqb}
 use borrow.Author.Tests.{eqb-true}
@@ -15,7 +15,8 @@ use Rattle.text.specs.declared.pattern.Found.{Found}
 use Rattle.text.specs.declared.pattern.Found.the-variants.{At, Nothing}
 use Rattle.text.proofs.BytesLaws.{rest, rest-length}
 use Rattle.text.proofs.PatternLaws.{starts-long, find-within}
-use Rattle.link.specs.Links.{relink, relinkOpen, relinkTarget}
+use Rattle.link.specs.Links.{relink, relinkOpen, relinkTarget, FoundLink}
+use Rattle.link.specs.declared.links.NextLink.the-variants.{Link}
 
 relink-on : (f : List ℕ → List ℕ) (x : ℕ) (s : List ℕ) → startsWith (bytes "](") (x ∷ s) ≡ false → relink f (x ∷ s) ≡ x ∷ relink f s
 unfolding relink
@@ -105,3 +106,11 @@ module _ (l : List ℕ) (n i : ℕ) (found : find (bytes "](") (part n (length l
     none-closed h f =
         let a : ℕ = n + i + 2 in
         target-from f ∙ rw (target-open f [] (drop a l) (omega (arith, length-drop a l)), ← target-at) (take-append-drop (i + 2) (drop n l))
+
+-- a link takes bytes, since it can become any text
+pub link-long : (l : List ℕ) (i a e : ℕ) → FoundLink l i (Link a e) → i < e
+link-long l i a e h =
+    let f : List ℕ → List ℕ = λ t. 0 ∷ [] in
+    let d : e ≡ i → ⊥ =
+    λ q. omega (arith, ap length (h .1 f), length-append (part i a l) (0 ∷ relink f (drop e l)), ap (λ (k : ℕ). length (relink f (drop k l))) q) in
+    omega (arith, h .0)

@@ -1,3 +1,2 @@
 pub mod Target
 pub mod Links
-pub mod Runs

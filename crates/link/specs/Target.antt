@@ -3,7 +3,6 @@ use Prim.Native.Nat.{ℕ}
 use mathlib.Core.Bool.{Bool, cond, not, _&&_, _||_}
 use mathlib.Core.List.{List, _∷_, _++_}
 use mathlib.Core.Option.{Option, none, some}
-use mathlib.Core.Path.{_≡_}
 use lib.ListN.{length, take, drop}
 use lib.Dec.{eqb}
 use Rattle.text.specs.Bytes.{is, first, afterLast}
@@ -12,8 +11,6 @@ use Rattle.anchor.specs.Anchor.{slug}
 use Rattle.path.specs.Path.{SLASH, resolve}
 use Rattle.link.specs.declared.target.Target.{Target}
 use Rattle.link.specs.declared.target.Target.the-variants.{Untouched, Path}
-use Rattle.link.specs.declared.target.NewTarget.{NewTarget}
-use Rattle.link.specs.declared.target.NewTarget.the-variants.{From, Title, Outside}
 
 -- a URL, a mail address and an anchor are already right
 abbrev pub isRight : List ℕ → Bool
@@ -55,13 +52,3 @@ anchored host dir t (Path e) = cond (equals host (resolve dir (take e t)) && not
 
 unfoldable pub anchorSelf : List ℕ → List ℕ → List ℕ → List ℕ
 anchorSelf host dir t = anchored host dir t (targetOf t)
-
--- For `rewrite_target`: the bytes that its answer stands for
-abbrev pub bytesOf : List ℕ → List ℕ → List ℕ → List ℕ → NewTarget → List ℕ
-bytesOf title url dir t (From a) = drop a t
-bytesOf title url dir t Title = 0x23 ∷ slug title
-bytesOf title url dir t (Outside e) = outside url (resolve dir (take e t)) ++ drop e t
-
--- what a path up to place e becomes, for every title, URL and directory, where it names a member or not
-abbrev pub Becomes : List ℕ → ℕ → Bool → NewTarget → Type 0
-Becomes t e member r = (title url dir : List ℕ) → bytesOf title url dir t r ≡ placed url (resolve dir (take e t)) (drop e t) (cond member (some title) none)

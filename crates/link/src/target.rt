@@ -2,7 +2,7 @@
 ghost use mathlib.Core.Path.{_≡_};
 ghost use Prim.Native.Nat.{_≤_};
 ghost use lib.ListN.{length, take, drop};
-ghost use Rattle.link.specs.Target.{isRight, targetOf, trimSlashes, anchorSelf, Becomes};
+ghost use Rattle.link.specs.Target.{isRight, targetOf, trimSlashes, anchorSelf};
 use text::bytes;
 use text::pattern;
 
@@ -10,13 +10,6 @@ use text::pattern;
 pub enum Target {
     Untouched,
     Path(usize),
-}
-
-// What a target becomes: its bytes from a place on, the anchor of the member's title, or its path at the repository with its bytes from a place on.
-pub enum NewTarget {
-    From(usize),
-    Title,
-    Outside(usize),
 }
 
 // Whether a target is a URL, a mail address or an anchor.
@@ -61,20 +54,6 @@ pub fn anchor_self(target: &[u8], dir: &[u8], host: &[u8]) -> usize
             0
         }
     }
-}
-
-// What a path with a fragment or none becomes, where it names a member or not.
-pub fn rewrite_target(target: &[u8], end: usize, member: bool) -> NewTarget
-    requires { ⌜ end ≤ length (now target) ⌝ }
-    ensures { λ r. ⌜ Becomes (now (target .entry)) end member r ⌝ }
-{
-    if !member {
-        return NewTarget::Outside(end);
-    }
-    if end == target.len() {
-        return NewTarget::Title;
-    }
-    NewTarget::From(end)
 }
 
 // How long a URL is without trailing `/`.

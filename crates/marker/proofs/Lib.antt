@@ -1,2 +1,1 @@
 pub mod MarkerLaws
-pub mod FirstLaws

@@ -10,7 +10,7 @@ use Rattle.heading.specs.declared.walk.LineKind.{LineKind}
 use Rattle.heading.specs.declared.walk.LineKind.the-variants.{Quoted, Heading, Other}
 use Rattle.heading.proofs.WalkLaws.{kind-within}
 use Rattle.shift.specs.Shift.{Told}
-use Rattle.put.proofs.PartLaws.{part-part}
+use Rattle.text.proofs.PartLaws.{part-part}
 use Rattle.member.specs.Lines.{leftOf, CursorIn, IsLine, IsPlain, Plain, IsHeading}
 use Rattle.member.specs.declared.lines.LineCursor.{LineCursor}
 

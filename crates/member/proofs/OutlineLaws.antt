@@ -21,7 +21,7 @@ use Rattle.shift.specs.Levels.{HasLevel, AreLevels}
 use Rattle.shift.specs.Shift.{Told, toldFrom, kindsOf}
 use Rattle.shift.proofs.LevelsLaws.{step-level, Found, found-turn}
 use Rattle.text.proofs.BytesLaws.{part-full}
-use Rattle.put.proofs.PartLaws.{part-part}
+use Rattle.text.proofs.PartLaws.{part-part}
 use Rattle.member.specs.Member.{withoutContents, preparedLines, titleOf, movable}
 use Rattle.member.specs.Lines.{keptLines, leftOf, atFirst, CursorIn, IsLine}
 use Rattle.member.specs.Outline.{IsOutline, movedKinds}

@@ -299,8 +299,8 @@ module _ {dir path : List ℕ} {n : ℕ} {c : PathCursor} {b : PathCursor} {e : 
       }
 
 -- a part of a part
-pub part-drop : (l : List ℕ) (n a e : ℕ) → part a e (drop n l) ≡ part (n + a) (n + e) l
-part-drop l n a e =
+pub part-behind : (l : List ℕ) (n a e : ℕ) → part a e (drop n l) ≡ part (n + a) (n + e) l
+part-behind l n a e =
     let k : e - a ≡ (n + e) - (n + a) = omega arith in
     ap (take (e - a)) (drop-drop a n l) ∙ ap (λ (m : ℕ). take m (drop (n + a) l)) k
 

@@ -8,7 +8,7 @@ use lib.ListN.{length, drop, set, replicate, length-append, length-replicate}
 use lib.Seq.{sets, length-sets, drop-set-lt, drop-drop}
 use Rattle.text.specs.Bytes.{part}
 use Rattle.text.proofs.BytesLaws.{part-full}
-use Rattle.put.proofs.PartLaws.{part-part}
+use Rattle.text.proofs.PartLaws.{part-part}
 use Rattle.buffer.proofs.BufferLaws.{sets-append}
 use Rattle.heading.specs.Level.{headingLine}
 use Rattle.put.specs.Put.{sourceText, Held, Inside, partOf, Able, Written, Wrote}

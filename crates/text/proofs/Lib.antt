@@ -1,4 +1,5 @@
 pub mod BytesLaws
+pub mod PartLaws
 pub mod FirstLaws
 pub mod AsciiLaws
 pub mod PatternLaws

@@ -40,7 +40,6 @@ unsafe extern "C" {
         answer: *mut u64,
     );
     fn leaf_target(target: *const u8, target_len: usize, answer: *mut u64);
-    fn leaf_rewrite(target: *const u8, target_len: usize, end: u64, member: u64, answer: *mut u64);
     fn leaf_self(
         target: *const u8,
         target_len: usize,
@@ -161,10 +160,6 @@ pub fn resolves(path: &[u8], dir: &[u8], name: &[u8]) -> Answer {
 
 pub fn target(target: &[u8]) -> Answer {
     answered(|answer| unsafe { leaf_target(target.as_ptr(), target.len(), answer) })
-}
-
-pub fn rewrite(target: &[u8], end: u64, member: u64) -> Answer {
-    answered(|answer| unsafe { leaf_rewrite(target.as_ptr(), target.len(), end, member, answer) })
 }
 
 pub fn self_anchor(target: &[u8], dir: &[u8], host: &[u8]) -> Answer {

@@ -71,23 +71,6 @@ fn first_link(line: &str, from: u64) -> Answer {
     [1, start as u64, (start + close) as u64, 0, 0, 0]
 }
 
-/// What targets become whose path ends at any place, with numbers that are none.
-pub fn check_all() -> Outcome {
-    let mut count = 0;
-    for target in ["", "a", "#", "a#", "a.md#k"] {
-        let length = target.len() as u64;
-        for end in places(target) {
-            let outside = [2, end.min(length), 0, 0, 0, 0];
-            let inside = if end < length { [0, end, 0, 0, 0, 0] } else { one(1) };
-            for (member, expected) in [(0, outside), (1, inside), (1 << 32, inside)] {
-                let what = format!("{target:?}, path ends at {end}, member {member}");
-                count += same(&what, expected, library::rewrite(target.as_bytes(), end, member))?;
-            }
-        }
-    }
-    Ok(count)
-}
-
 /// The one file of a fill.
 struct OneFile<'a> {
     name: &'a str,
@@ -167,22 +150,22 @@ fn rewritten(
     // The later of two members of a name serves.
     let title = setting.members.iter().rfind(|(name, _)| resolves(name)).map(|(_, title)| title);
     let length = target.len() as u64;
-    match library::rewrite(target.as_bytes(), path_end, u64::from(title.is_some())) {
-        [0, from, 0, 0, 0, 0] => {
-            targets.fragment += 1;
-            part(target, from, length).to_string()
-        }
-        [1, 0, 0, 0, 0, 0] => {
+    let fragment = part(target, path_end, length);
+    match title {
+        Some(title) if fragment.is_empty() => {
             targets.title += 1;
-            title.map_or("no member".to_string(), |title| format!("#{}", anchor(title)))
+            format!("#{}", anchor(title))
         }
-        [2, end, 0, 0, 0, 0] => {
+        Some(_) => {
+            targets.fragment += 1;
+            fragment.to_string()
+        }
+        None => {
             targets.outside += 1;
             let url = part(setting.url, 0, library::url(setting.url.as_bytes())[0]);
-            let path = resolved(part(target, 0, end), dir);
-            format!("{url}/blob/main/{path}{}", part(target, end, length))
+            let path = resolved(part(target, 0, path_end), dir);
+            format!("{url}/blob/main/{path}{fragment}")
         }
-        answer => format!("{answer:?}"),
     }
 }
 

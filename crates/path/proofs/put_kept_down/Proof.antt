@@ -2,7 +2,7 @@
 use mathlib.Core.Path.{sym}
 use lib.ListN.{length-drop}
 use native.Mathlib.Omega.{arith}
-use Rattle.path.proofs.PathLaws.{part-drop, closed-same, closed-fits}
+use Rattle.path.proofs.PathLaws.{part-behind, closed-same, closed-fits}
 use borrow.Author.Needs.{needs}
 use Rattle.path.proofs.put_kept_down.Statement.{statement}
 use Rattle.path.proofs.put_kept_down.Tie as tie
@@ -46,7 +46,7 @@ put-part-down-requires c κs =
     let h = rw (c .before .if1 .left) at (p .0 .1) in
     let f = rw (c .before .if1 .left) at (p .1 .0) in
     let l = length-drop (a .from) (a .work .now) in (
-      closed-fits (a .at) (a .end) (part-drop (a .work .now) (a .from) (a .before .left) (a .e)) f,
+      closed-fits (a .at) (a .end) (part-behind (a .work .now) (a .from) (a .before .left) (a .e)) f,
       (omega (arith, p .1 .1 .0), (omega (arith, p .0 .0), omega (arith, p .1 .1 .1))),
     )
 
@@ -56,7 +56,7 @@ same-length-2 c = search needs
 returns-2 : tie.Need-returns-2
 returns-2 c =
     let a = c .before .before .before .before .before .before .before .args in
-    let q = sym (part-drop (a .work .now) (a .from) (a .before .left) (a .e)) in
+    let q = sym (part-behind (a .work .now) (a .from) (a .before .left) (a .e)) in
     rw (c .before .before .before .before .if1 .left) (closed-same (a .at) (a .end) _ (a .work .now) _ q (c .before .before .put-part-down .ensures))
 
 pub put-kept-down-spec : {M : Type 1} → statement M

@@ -4,7 +4,8 @@ use native.Mathlib.Omega.{arith}
 use borrow.Author.Needs.{needs}
 use lib.ListN.{length}
 use Rattle.text.proofs.BytesLaws.{part-full}
-use Rattle.insertion.proofs.CutLaws.{Passed, passed-start, passed-none, passed-on, passed-cut, link-long}
+use Rattle.link.proofs.LinkLaws.{link-long}
+use Rattle.insertion.proofs.CutLaws.{Passed, passed-start, passed-none, passed-on, passed-cut}
 use Rattle.insertion.proofs.cut.next_cut.Statement.{statement}
 use Rattle.insertion.proofs.cut.next_cut.Tie as tie
 
