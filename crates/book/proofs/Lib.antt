@@ -5,4 +5,5 @@ pub mod Checks
 pub mod Example
 pub mod FillExamples
 pub mod ListLaws
+pub mod GivenLaws
 pub mod FillCallLaws

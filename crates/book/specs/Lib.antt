@@ -2,4 +2,4 @@ pub mod Book
 pub mod BookWalk
 pub mod Calls
 pub mod Demand
-pub mod FillCall
+pub mod Given
