@@ -3,3 +3,4 @@ pub mod BookWalk
 pub mod Calls
 pub mod Demand
 pub mod Given
+pub mod Files
