@@ -9,14 +9,13 @@ use denote.Enum.Declared.{tagOf}
 use types.Run.{OneOf, miss}
 use lib.Dec.{eqb}
 use lib.IntN.{ℤ, pos, _+ℤ_}
-use lib.ListN.{length, set}
+use lib.ListN.{length}
 use Rattle.text.specs.Bytes.{part}
 use Rattle.text.specs.Lines.{LF, led}
 use Rattle.text.specs.Split.{join}
 use Rattle.text.proofs.BytesLaws.{part-full}
 use Rattle.text.proofs.LedLaws.{join-led}
 use Rattle.heading.specs.Level.{movedTo}
-use Rattle.heading.specs.Walk.{stepKind}
 use Rattle.heading.specs.declared.level.Moved.{Moved}
 use Rattle.heading.specs.declared.level.Moved.the-variants.{To, Past}
 use Rattle.heading.specs.declared.walk.LineKind.{LineKind}
@@ -24,7 +23,7 @@ use Rattle.heading.specs.declared.walk.LineKind.the-variants.{Quoted, Heading, 
 use Rattle.heading.proofs.walk.LineKind.{the-type}
 use Rattle.heading.proofs.LevelLaws.{moved-level}
 use Rattle.link.specs.Links.{relink}
-use Rattle.shift.specs.Shift.{Told, atLevel, toldFrom}
+use Rattle.shift.specs.Shift.{Told, atLevel}
 use Rattle.put.specs.Put.{sourceText, partOf, Able, Written, Wrote}
 use Rattle.put.specs.NewText.{newTextAt, newTextOf, KindIn}
 use Rattle.put.specs.declared.Source.{Source}
@@ -33,9 +32,9 @@ use Rattle.put.specs.declared.Put.{Put}
 use Rattle.put.specs.declared.line.NewText.{NewText}
 use Rattle.put.proofs.PartLaws.{part-part}
 use Rattle.put.proofs.NewTextLaws.{heading-linked, kind-in, TextIn, text-in}
-use Rattle.put.proofs.PutLaws.{Reached, roomAt, reached-start, reached-next, reached-over, reached-end, source-length, source-same, able-on}
+use Rattle.put.proofs.PutLaws.{Reached, roomAt, reached-start, reached-next, reached-over, reached-end, source-length, source-same}
 use Rattle.member.specs.Member.{movable}
-use Rattle.member.specs.Lines.{keptLines, leftOf, atFirst, CursorIn, IsLine}
+use Rattle.member.specs.Lines.{leftOf, atFirst, CursorIn, IsLine}
 use Rattle.member.specs.declared.lines.LineCursor.{LineCursor}
 use Rattle.member.proofs.LinesLaws.{lines-on}
 use Rattle.emission.proofs.LinkedLaws.{level-over, level-put, text-able, text-put}

@@ -6,7 +6,6 @@ use mathlib.Core.Path.{_≡_, refl, sym, ap, _∙_}
 use mathlib.Core.Bool.{Bool, true, false, cond}
 use mathlib.Core.List.{List, [], _∷_, _++_}
 use mathlib.Core.Option.{Option, none, some}
-use lib.Dec.{eqb}
 use lib.ListN.{length, take, drop, length-drop}
 use borrow.Author.Tests.{eq-eqb, ne-eqb}
 use Rattle.text.specs.Pattern.{equals}
@@ -23,10 +22,10 @@ use Rattle.put.specs.declared.Source.{Source}
 use Rattle.put.specs.declared.Room.{Room}
 use Rattle.put.proofs.PutLaws.{able-part, inside-any, source-part}
 use Rattle.member.specs.Member.{Prepared}
-use Rattle.members.specs.Members.{memberAt, nameOf, titleSource, preparedFrom, preparedIn, Stands, AllStand}
+use Rattle.members.specs.Members.{memberAt, nameOf, titleSource, preparedFrom, preparedIn, AllStand}
 use Rattle.members.specs.declared.Member.{Member}
 use Rattle.members.proofs.MembersLaws.{prepared-more, prepared-on}
-use Rattle.target.proofs.PutLaws.{front}
+use Rattle.pointer.proofs.PutLaws.{front}
 use Rattle.target.specs.Titles.{titleNamed, titlesIn, Named, FoundMember, TitleIn, inside}
 
 -- one more member at the end

@@ -1,17 +1,11 @@
 // What a link's target becomes: the anchor of a member's title, a kept fragment, or the path at the repository.
-ghost use mathlib.Core.List.{_∷_, _++_};
-ghost use mathlib.Core.Path.{_≡_};
-ghost use Prim.Native.Nat.{_+_, _-_, _≤_, _<_};
+ghost use Prim.Native.Nat.{_-_, _≤_, _<_};
 ghost use lib.ListN.{length, take, drop};
-ghost use Rattle.text.specs.Pattern.{bytes};
-ghost use Rattle.anchor.specs.Anchor.{slug};
 ghost use Rattle.path.specs.Path.{resolve};
-ghost use Rattle.link.specs.Target.{trimSlashes, outside, placed, rewriteTarget};
+ghost use Rattle.link.specs.Target.{placed, rewriteTarget};
 ghost use Rattle.put.specs.Put.{sourceText, Able, Wrote};
 ghost use Rattle.members.specs.Members.{memberAt, titleSource, AllStand};
 ghost use Rattle.target.specs.Titles.{titlesIn, Named, FoundMember, TitleIn, inside};
-use anchor::AnchorByte;
-use link::target;
 use link::target::Target;
 use path::Resolved;
 use put::Put;
@@ -20,16 +14,14 @@ use put::Source;
 use text::pattern;
 use text::pattern::Found;
 
-pub mod read;
-
 // The last member of a name.
 fn find_member(index: &[u8], set: &[usize; 704], count: usize, name: &[u8]) -> Found
     requires { ⌜ Named (now index) (now set) count ⌝ }
     ensures { λ r. ⌜ FoundMember (now (index .entry)) (now (set .entry)) count (now (name .entry)) r ⌝ }
 {
-    let mut k = count;
-    while 0 < k {
-        k -= 1;
+    let mut left = count;
+    while 0 < left {
+        let k = left - 1;
         let m = members::member_at(set, k);
         let other = m.name;
         let a = other.start;
@@ -37,113 +29,9 @@ fn find_member(index: &[u8], set: &[usize; 704], count: usize, name: &[u8]) -> F
         if pattern::equals(name, &index[a..e]) {
             return Found::At(k);
         }
+        left -= 1;
     }
     Found::Nothing
-}
-
-// `#` and the anchor of a title.
-fn put_anchor(contents: &[u8], title: Source, room: Room, work: &mut [u8]) -> Put
-    requires { ⌜ Able title room (now contents) (now work) ⌝ }
-    ensures { λ r. ⌜ Wrote room (0x23 ∷ slug (sourceText title (now (contents .entry)) (now (work .entry)))) (now (work .entry)) (now (work .exit)) r ⌝ }
-{
-    let limit = room.limit;
-    let mut at = room.at;
-    let mut b = b'#';
-    let mut c = read::anchor_in(contents, work, title);
-    loop {
-        if at == limit {
-            return Put::Over;
-        }
-        work[at] = b;
-        at += 1;
-        let AnchorByte::Byte(next, behind) = read::byte_in(contents, work, title, c) else {
-            return Put::To(at);
-        };
-        b = next;
-        c = behind;
-    }
-}
-
-// The repository's URL up to the path.
-fn put_root(url: &[u8], room: Room, work: &mut [u8]) -> Put
-    requires { ⌜ (room .at ≤ room .limit) × (room .limit ≤ length (now work)) ⌝ }
-    ensures { λ r. ⌜ Wrote room (trimSlashes (now (url .entry)) ++ bytes "/blob/main/") (now (work .entry)) (now (work .exit)) r ⌝ }
-{
-    let limit = room.limit;
-    let n = target::url_length(url);
-    let Put::To(at) = put::put_bytes(&url[..n], room, work) else {
-        return Put::Over;
-    };
-    put::put_bytes(b"/blob/main/", Room { at, limit }, work)
-}
-
-// A path in a directory, once it is resolved, however long it is.
-fn put_path(contents: &[u8], path: Source, dir: &[u8], room: Room, work: &mut [u8]) -> Put
-    requires { ⌜ Able path room (now contents) (now work) ⌝ }
-    ensures { λ r. ⌜ Wrote room (resolve (now (dir .entry)) (sourceText path (now (contents .entry)) (now (work .entry)))) (now (work .entry)) (now (work .exit)) r ⌝ }
-{
-    let n = read::length_in(contents, work, path, dir);
-    if room.limit - room.at < n {
-        return Put::Over;
-    }
-    let end = room.at + n;
-    let a = path.start;
-    let e = path.end;
-    if path.work {
-        path::put_resolved_down(work, a, e, dir, end);
-        return Put::To(end);
-    }
-    path::put_resolved(&contents[a..e], dir, end, work);
-    Put::To(end)
-}
-
-// A path that names no member, resolved, at the repository, and its fragment behind it: the target's bytes from a place on.
-fn put_outside(
-    contents: &[u8],
-    url: &[u8],
-    resolved: &[u8],
-    target: Source,
-    e: usize,
-    room: Room,
-    work: &mut [u8],
-) -> Put
-    requires { ⌜ Able target room (now contents) (now work) × (e ≤ target .end - target .start) ⌝ }
-    ensures { λ r. ⌜ Wrote room (outside (now (url .entry)) (now (resolved .entry)) ++ drop e (sourceText target (now (contents .entry)) (now (work .entry)))) (now (work .entry)) (now (work .exit)) r ⌝ }
-{
-    let limit = room.limit;
-    let n = target.end - target.start;
-    let Put::To(at) = put_root(url, room, work) else {
-        return Put::Over;
-    };
-    let Put::To(m) = put::put_bytes(resolved, Room { at, limit }, work) else {
-        return Put::Over;
-    };
-    put::put_part(contents, target, e, n, Room { at: m, limit }, work)
-}
-
-// The same for a path that is too long for a name, resolved where it is put.
-fn put_far(
-    contents: &[u8],
-    url: &[u8],
-    target: Source,
-    e: usize,
-    dir: &[u8],
-    room: Room,
-    work: &mut [u8],
-) -> Put
-    requires { ⌜ Able target room (now contents) (now work) × (e ≤ target .end - target .start) ⌝ }
-    ensures { λ r. ⌜ Wrote room (outside (now (url .entry)) (resolve (now (dir .entry)) (take e (sourceText target (now (contents .entry)) (now (work .entry))))) ++ drop e (sourceText target (now (contents .entry)) (now (work .entry)))) (now (work .entry)) (now (work .exit)) r ⌝ }
-{
-    let limit = room.limit;
-    let n = target.end - target.start;
-    let Put::To(at) = put_root(url, room, work) else {
-        return Put::Over;
-    };
-    let path = put::part_of(target, 0, e);
-    let Put::To(m) = put_path(contents, path, dir, Room { at, limit }, work) else {
-        return Put::Over;
-    };
-    put::put_part(contents, target, e, n, Room { at: m, limit }, work)
 }
 
 // A target that names a member: its bytes from a place on, or where there are none `#` and the anchor of the member's title.
@@ -164,7 +52,7 @@ fn put_inside(
         return put::put_part(contents, target, e, n, room, work);
     }
     let title = members::title_of(members::member_at(set, k));
-    put_anchor(contents, title, room, work)
+    pointer::put_anchor(contents, title, room, work)
 }
 
 // A target whose path is resolved, where it names a member or not.
@@ -185,7 +73,7 @@ fn put_named(
 {
     match find_member(index, set, count, resolved) {
         Found::At(k) => put_inside(contents, set, k, target, e, room, work),
-        Found::Nothing => put_outside(contents, url, resolved, target, e, room, work),
+        Found::Nothing => pointer::put_outside(contents, url, resolved, target, e, room, work),
     }
 }
 
@@ -207,7 +95,7 @@ fn put_placed(
 {
     let mut resolved = [0u8; 256];
     let path = put::part_of(target, 0, e);
-    match read::resolve_in(contents, work, path, dir, &mut resolved) {
+    match pointer::read::resolve_in(contents, work, path, dir, &mut resolved) {
         Resolved::From(a) => put_named(
             index,
             contents,
@@ -220,7 +108,7 @@ fn put_placed(
             room,
             work,
         ),
-        Resolved::Long => put_far(contents, url, target, e, dir, room, work),
+        Resolved::Long => pointer::put_far(contents, url, target, e, dir, room, work),
     }
 }
 
@@ -239,7 +127,7 @@ pub fn put_target(
     requires { ⌜ Able target room (now contents) (now work) × AllStand (now index) (length (now contents)) (room .limit) (length (now work)) (now set) count ⌝ }
     ensures { λ r. ⌜ Wrote room (rewriteTarget (titlesIn (now (index .entry)) (now (contents .entry)) (now (work .entry)) (now (set .entry)) count) (now (url .entry)) (now (dir .entry)) (sourceText target (now (contents .entry)) (now (work .entry)))) (now (work .entry)) (now (work .exit)) r ⌝ }
 {
-    match read::target_in(contents, work, target) {
+    match pointer::read::target_in(contents, work, target) {
         Target::Untouched => {
             let n = target.end - target.start;
             put::put_part(contents, target, 0, n, room, work)

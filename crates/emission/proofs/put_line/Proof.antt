@@ -1,5 +1,4 @@
 -- `emission::put_line` meets its contract. Assumes nothing.
-use native.Mathlib.Omega.{arith}
 use Rattle.heading.proofs.LevelLaws.{shift-kept}
 use Rattle.link.specs.Target.{rewriteTarget}
 use Rattle.target.specs.Titles.{titlesIn}

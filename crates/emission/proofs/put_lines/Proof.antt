@@ -67,7 +67,8 @@ kind-after-requires c κs = search needs
 put-line-requires : tie.Need-put-line-requires Inv-loop μ-loop
 put-line-requires c κs = let s = c .before .before .before .before .before .before .before .before .before .before .before .before .before .before .before .before .before .before .before .before .before in
     let b = line-bounds (s .pre .0) (rw (shift-kept (s .args .shift) (s .pre .1 .1)) at (c .before .before .before .before .before .before .before .before .before .before .before .before .before .before .loop .inv)) (c .before .before .before .before .before .before .before .before .before .before .a .given .0 .0) (c .before .before .before .before .before .before .before .before .before .before .a .given .0 .1 .0) (c .before .before .before .before .before .before .before .before .before .before .a .given .0 .1 .1 .0) (c .before .before .before .before .before .before .before .before .before .before .a .given .0 .1 .1 .1 .0) (rw (c .before .before .before .before .before .before .before .before .before .before .a .given .1) at (c .before .before .before .before .before .before .before .before .before .before .before .before .line-in .ensures)) in
-    (able-on (s .pre .0) (broken (s .pre .0) (rw (shift-kept (s .args .shift) (s .pre .1 .1)) at (c .before .before .before .before .before .before .before .before .before .before .before .before .before .before .loop .inv)) (c .before .before .before .before .before .before .before .before .before .before .a .given .0 .0) (c .before .before .before .before .before .before .before .before .before .before .a .given .0 .1 .0) (c .before .before .before .before .before .before .before .before .before .before .a .given .0 .1 .1 .0) (c .before .before .before .before .before .before .before .before .before .before .a .given .0 .1 .1 .1 .0) (rw (c .before .before .before .before .before .before .before .before .before .before .a .given .1) at (c .before .before .before .before .before .before .before .before .before .before .before .before .line-in .ensures)) _ _ (rw (c .before .before .before .m .given .1) at (c .before .before .before .before .before .before .before .put-break .ensures))), (all-on (s .args .contents .now) (s .pre .1 .0) (broken (s .pre .0) (rw (shift-kept (s .args .shift) (s .pre .1 .1)) at (c .before .before .before .before .before .before .before .before .before .before .before .before .before .before .loop .inv)) (c .before .before .before .before .before .before .before .before .before .before .a .given .0 .0) (c .before .before .before .before .before .before .before .before .before .before .a .given .0 .1 .0) (c .before .before .before .before .before .before .before .before .before .before .a .given .0 .1 .1 .0) (c .before .before .before .before .before .before .before .before .before .before .a .given .0 .1 .1 .1 .0) (rw (c .before .before .before .before .before .before .before .before .before .before .a .given .1) at (c .before .before .before .before .before .before .before .before .before .before .before .before .line-in .ensures)) _ _ (rw (c .before .before .before .m .given .1) at (c .before .before .before .before .before .before .before .put-break .ensures))), (b .0, (b .1, (rw (c .before .kind-after .ensures) (line-kind (s .pre .0) (rw (shift-kept (s .args .shift) (s .pre .1 .1)) at (c .before .before .before .before .before .before .before .before .before .before .before .before .before .before .loop .inv)) (c .before .before .before .before .before .before .before .before .before .before .a .given .0 .0) (c .before .before .before .before .before .before .before .before .before .before .a .given .0 .1 .0) (c .before .before .before .before .before .before .before .before .before .before .a .given .0 .1 .1 .0) (c .before .before .before .before .before .before .before .before .before .before .a .given .0 .1 .1 .1 .0) (rw (c .before .before .before .before .before .before .before .before .before .before .a .given .1) at (c .before .before .before .before .before .before .before .before .before .before .before .before .line-in .ensures))), rw (shift-kept (s .args .shift) (s .pre .1 .1)) (s .pre .1 .1))))))
+    let p = broken (s .pre .0) (rw (shift-kept (s .args .shift) (s .pre .1 .1)) at (c .before .before .before .before .before .before .before .before .before .before .before .before .before .before .loop .inv)) (c .before .before .before .before .before .before .before .before .before .before .a .given .0 .0) (c .before .before .before .before .before .before .before .before .before .before .a .given .0 .1 .0) (c .before .before .before .before .before .before .before .before .before .before .a .given .0 .1 .1 .0) (c .before .before .before .before .before .before .before .before .before .before .a .given .0 .1 .1 .1 .0) (rw (c .before .before .before .before .before .before .before .before .before .before .a .given .1) at (c .before .before .before .before .before .before .before .before .before .before .before .before .line-in .ensures)) (c .before .before .before .before .before .before .before .put-break .last .1 .1 .0) (c .before .before .before .m .given .0 .0) (rw (c .before .before .before .m .given .1) at (c .before .before .before .before .before .before .before .put-break .ensures)) in
+    (able-on (s .pre .0) {at = c .before .before .before .m .given .0 .0} p, (all-on (s .args .contents .now) (s .pre .1 .0) p, (b .0, (b .1, (rw (c .before .kind-after .ensures) (line-kind (s .pre .0) (rw (shift-kept (s .args .shift) (s .pre .1 .1)) at (c .before .before .before .before .before .before .before .before .before .before .before .before .before .before .loop .inv)) (c .before .before .before .before .before .before .before .before .before .before .a .given .0 .0) (c .before .before .before .before .before .before .before .before .before .before .a .given .0 .1 .0) (c .before .before .before .before .before .before .before .before .before .before .a .given .0 .1 .1 .0) (c .before .before .before .before .before .before .before .before .before .before .a .given .0 .1 .1 .1 .0) (rw (c .before .before .before .before .before .before .before .before .before .before .a .given .1) at (c .before .before .before .before .before .before .before .before .before .before .before .before .line-in .ensures))), rw (shift-kept (s .args .shift) (s .pre .1 .1)) (s .pre .1 .1))))))
 
 enum-known-n : tie.Need-enum-known-n Inv-loop μ-loop
 enum-known-n c = search needs

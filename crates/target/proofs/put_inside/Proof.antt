@@ -1,7 +1,7 @@
 -- `target::put_inside` meets its contract. Assumes nothing.
-use Rattle.put.specs.Put.{sourceText, Wrote}
+use Rattle.put.specs.Put.{sourceText}
 use Rattle.members.specs.Members.{memberAt, titleSource}
-use Rattle.target.proofs.PutLaws.{fragment-is}
+use Rattle.pointer.proofs.PutLaws.{fragment-is}
 use Rattle.put.proofs.PutLaws.{source-length}
 use native.Mathlib.Omega.{arith}
 use Rattle.target.proofs.TitleLaws.{inside-some, inside-none}

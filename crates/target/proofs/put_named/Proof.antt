@@ -1,8 +1,11 @@
 -- `target::put_named` meets its contract. Assumes nothing.
+use lib.ListN.{drop}
+use Rattle.members.specs.Members.{memberAt, titleSource}
+use Rattle.target.specs.Titles.{titlesIn}
 use mathlib.Core.Path.{sym, subst}
 use mathlib.Core.List.{List}
 use Prim.Native.Nat.{ℕ}
-use Rattle.put.specs.Put.{Wrote}
+use Rattle.put.specs.Put.{sourceText, Wrote}
 use Rattle.target.proofs.TitleLaws.{placed-inside, placed-outside}
 use native.Mathlib.Omega.{arith}
 use Rattle.target.proofs.TitleLaws.{names-lie, title-in, title-able}
@@ -34,7 +37,7 @@ returns : tie.Need-returns
 returns c = let a = c .before .before .before .before .before .before .before .before .before .before .before .before .before .args in
     let f = rw (c .before .before .before .before .before .k .given .1) at (c .before .before .before .before .before .before .before .find-member .ensures) in
     subst (λ (x : List ℕ). Wrote (a .room) x (a .work .now) (c .before .before .put-inside .last .1 .1 .1 .1 .1 .1 .0) (c .before .before .put-inside .result))
-    (sym (placed-inside (a .url .now) (a .resolved .now) _ _ _ (f .1 (a .contents .now) (a .work .now)))) (c .before .before .put-inside .ensures)
+    (sym (placed-inside (a .url .now) (a .resolved .now) (drop (a .e) (sourceText (a .target) (a .contents .now) (a .work .now))) (titlesIn (a .index .now) (a .contents .now) (a .work .now) (a .set .now) (a .count) (a .resolved .now)) (sourceText (titleSource (memberAt (a .set .now) (c .before .before .before .before .before .k .given .0 .0))) (a .contents .now) (a .work .now)) (f .1 (a .contents .now) (a .work .now)))) (c .before .before .put-inside .ensures)
 
 same-length-2 : tie.Need-same-length-2
 same-length-2 c = search needs
@@ -43,7 +46,7 @@ returns-2 : tie.Need-returns-2
 returns-2 c = let a = c .before .before .before .before .before .before .before .before .before .before .before .before .args in
     let f = rw (c .before .before .before .before .enum-told .given .1) at (c .before .before .before .before .before .before .find-member .ensures) in
     subst (λ (x : List ℕ). Wrote (a .room) x (a .work .now) (c .before .before .put-outside .last .1 .1 .1 .1 .1 .1 .0) (c .before .before .put-outside .result))
-    (sym (placed-outside (a .url .now) (a .resolved .now) _ _ (f (a .contents .now) (a .work .now)))) (c .before .before .put-outside .ensures)
+    (sym (placed-outside (a .url .now) (a .resolved .now) (drop (a .e) (sourceText (a .target) (a .contents .now) (a .work .now))) (titlesIn (a .index .now) (a .contents .now) (a .work .now) (a .set .now) (a .count) (a .resolved .now)) (f (a .contents .now) (a .work .now)))) (c .before .before .put-outside .ensures)
 
 pub put-named-spec : {M : Type 1} → statement M
 put-named-spec =

@@ -2,7 +2,7 @@
 use Prim.Native.Nat.{ℕ}
 use native.Mathlib.Omega.{arith}
 use mathlib.Core.Path.{_≡_, sym, subst}
-use mathlib.Core.List.{List, []}
+use mathlib.Core.List.{List}
 use lib.ListN.{length, take, drop, replicate}
 use Rattle.link.specs.Target.{placed}
 use Rattle.path.specs.Path.{resolve}
@@ -62,7 +62,7 @@ returns-2 c = let a = c .before .before .before .before .before .before .before 
     let z : length (c .before .before .before .before .before .before .before .resolve-in .last .1 .1 .1 .1 .0) ≡ 256 = omega (arith, c .before .before .before .before .before .before .before .resolve-in .kept) in
     let n = path-long (c .before .before .before .before .before .before .before .before .before .before .before .before .before .before .before .before .pre .0) (a .e) (c .before .before .before .before .before .before .before .before .before .before .before .before .before .before .before .before .pre .1 .0) (c .before .before .before .before .before .before .before .before .before .before .part-of .ensures) (a .dir .now) (c .before .before .before .before .before .before .before .resolve-in .last .1 .1 .1 .1 .0) z f in
     subst (λ (x : List ℕ). Wrote (a .room) x (a .work .now) (c .before .before .put-far .last .1 .1 .1 .1 .1 .1 .0) (c .before .before .put-far .result))
-    (sym (placed-outside (a .url .now) _ _ _ (long-path (c .before .before .before .before .before .before .before .before .before .before .before .before .before .before .before .before .pre .1 .1) (a .contents .now) (a .work .now) _ n))) (c .before .before .put-far .ensures)
+    (sym (placed-outside (a .url .now) (resolve (a .dir .now) (take (a .e) (sourceText (a .target) (a .contents .now) (a .work .now)))) (drop (a .e) (sourceText (a .target) (a .contents .now) (a .work .now))) (titlesIn (a .index .now) (a .contents .now) (a .work .now) (a .set .now) (a .count) (resolve (a .dir .now) (take (a .e) (sourceText (a .target) (a .contents .now) (a .work .now))))) (long-path (c .before .before .before .before .before .before .before .before .before .before .before .before .before .before .before .before .pre .1 .1) (a .contents .now) (a .work .now) (resolve (a .dir .now) (take (a .e) (sourceText (a .target) (a .contents .now) (a .work .now)))) n))) (c .before .before .put-far .ensures)
 
 pub put-placed-spec : {M : Type 1} → statement M
 put-placed-spec =

@@ -4,7 +4,7 @@ use mathlib.Core.List.{List}
 use Prim.Native.Nat.{ℕ}
 use Rattle.put.specs.Put.{sourceText, Wrote}
 use Rattle.target.specs.Titles.{titlesIn}
-use Rattle.target.proofs.PutLaws.{fragment-is}
+use Rattle.pointer.proofs.PutLaws.{fragment-is}
 use native.Mathlib.Omega.{arith}
 use mathlib.Core.Path.{sym, _∙_}
 use lib.ListN.{length}

@@ -1,8 +1,8 @@
--- `target::read::byte_in` meets its contract: the title is read where it lies. Assumes nothing.
+-- `pointer::read::byte_in` meets its contract: the title is read where it lies. Assumes nothing.
 use native.Mathlib.Omega.{arith}
 use borrow.Author.Needs.{needs}
-use Rattle.target.proofs.read.byte_in.Statement.{statement}
-use Rattle.target.proofs.read.byte_in.Tie as tie
+use Rattle.pointer.proofs.read.byte_in.Statement.{statement}
+use Rattle.pointer.proofs.read.byte_in.Tie as tie
 
 sub-next : tie.Need-sub-next
 sub-next c = search needs

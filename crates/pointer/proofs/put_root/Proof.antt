@@ -1,12 +1,12 @@
--- `target::put_root` meets its contract. Assumes nothing.
+-- `pointer::put_root` meets its contract. Assumes nothing.
 use mathlib.Core.Path.{sym}
 use lib.Seq.{length-take-le}
 use Rattle.link.specs.Target.{trimSlashes}
 use native.Mathlib.Omega.{arith}
-use Rattle.target.proofs.PutLaws.{first-over, second-put}
+use Rattle.pointer.proofs.PutLaws.{first-over, second-put}
 use borrow.Author.Needs.{needs}
-use Rattle.target.proofs.put_root.Statement.{statement}
-use Rattle.target.proofs.put_root.Tie as tie
+use Rattle.pointer.proofs.put_root.Statement.{statement}
+use Rattle.pointer.proofs.put_root.Tie as tie
 
 url-length-requires : tie.Need-url-length-requires
 url-length-requires c κs = search needs

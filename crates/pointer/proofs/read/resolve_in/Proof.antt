@@ -1,8 +1,8 @@
--- `target::read::resolve_in` meets its contract: the path is resolved where it lies. Assumes nothing.
+-- `pointer::read::resolve_in` meets its contract: the path is resolved where it lies. Assumes nothing.
 use native.Mathlib.Omega.{arith}
 use borrow.Author.Needs.{needs}
-use Rattle.target.proofs.read.resolve_in.Statement.{statement}
-use Rattle.target.proofs.read.resolve_in.Tie as tie
+use Rattle.pointer.proofs.read.resolve_in.Statement.{statement}
+use Rattle.pointer.proofs.read.resolve_in.Tie as tie
 
 sub-resolve-into : tie.Need-sub-resolve-into
 sub-resolve-into c = search needs

@@ -1,9 +1,9 @@
--- `target::put_outside` meets its contract. Assumes nothing.
+-- `pointer::put_outside` meets its contract. Assumes nothing.
 use native.Mathlib.Omega.{arith}
-use Rattle.target.proofs.PutLaws.{root-over, root-able, path-over, path-able, fragment-put}
+use Rattle.pointer.proofs.PutLaws.{root-over, root-able, path-over, path-able, fragment-put}
 use borrow.Author.Needs.{needs}
-use Rattle.target.proofs.put_outside.Statement.{statement}
-use Rattle.target.proofs.put_outside.Tie as tie
+use Rattle.pointer.proofs.put_outside.Statement.{statement}
+use Rattle.pointer.proofs.put_outside.Tie as tie
 
 sub-n : tie.Need-sub-n
 sub-n c = search needs

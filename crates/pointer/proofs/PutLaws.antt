@@ -16,7 +16,7 @@ use Rattle.put.specs.Put.{sourceText, partOf, Able, Written, Wrote}
 use Rattle.put.specs.declared.Source.{Source}
 use Rattle.put.specs.declared.Room.{Room}
 use Rattle.put.specs.declared.Put.{Put}
-use Rattle.put.proofs.PutLaws.{Reached, roomAt, reached-start, reached-next, reached-over, reached-last, reached-end, source-length, source-same, part-same, able-part, able-on}
+use Rattle.put.proofs.PutLaws.{Reached, roomAt, reached-start, reached-next, reached-over, reached-last, reached-end, source-length, source-same, part-same, able-on}
 
 -- a text put behind another
 module _ {room : Room} (a b w : List ℕ) (below : room .at ≤ room .limit) where

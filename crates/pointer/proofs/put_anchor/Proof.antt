@@ -1,14 +1,13 @@
--- `target::put_anchor` meets its contract. The invariant: the anchor is put up to byte b. Assumes nothing.
+-- `pointer::put_anchor` meets its contract. The invariant: the anchor is put up to byte b. Assumes nothing.
 use Prim.Native.Nat.{_<_}
 use lib.ListN.{length}
 use Prim.Native.Nat.{_-_}
 use native.Mathlib.Omega.{arith}
-use lib.ListN.{length-set}
 use borrow.Author.Needs.{needs}
-use Rattle.put.proofs.PutLaws.{reached-length, able-on, able-read, inside-any}
-use Rattle.target.proofs.PutLaws.{Anchoring, anchoring-start, anchor-over, anchor-byte, anchor-within, anchor-end, anchor-less, anchor-on}
-use Rattle.target.proofs.put_anchor.Statement.{statement}
-use Rattle.target.proofs.put_anchor.Tie as tie
+use Rattle.put.proofs.PutLaws.{reached-length, able-read, inside-any}
+use Rattle.pointer.proofs.PutLaws.{Anchoring, anchoring-start, anchor-over, anchor-byte, anchor-within, anchor-end, anchor-less, anchor-on}
+use Rattle.pointer.proofs.put_anchor.Statement.{statement}
+use Rattle.pointer.proofs.put_anchor.Tie as tie
 
 abbrev Inv-loop : tie.InvT-loop
 Inv-loop contents title work₀ limit at₀ b₀ c₀ work at b c = Anchoring title (record { at = at₀; limit = limit }) contents work₀ work at b c

@@ -1,14 +1,13 @@
--- `target::put_path` meets its contract. Assumes nothing.
+-- `pointer::put_path` meets its contract. Assumes nothing.
 use Rattle.text.specs.Bytes.{part}
 use native.Mathlib.Omega.{arith}
 use lib.ListN.{length}
 use Rattle.put.proofs.PutLaws.{inside-any}
 use Rattle.path.specs.Path.{resolve}
-use Rattle.put.specs.Put.{sourceText}
-use Rattle.target.proofs.PutLaws.{put-whole}
+use Rattle.pointer.proofs.PutLaws.{put-whole}
 use borrow.Author.Needs.{needs}
-use Rattle.target.proofs.put_path.Statement.{statement}
-use Rattle.target.proofs.put_path.Tie as tie
+use Rattle.pointer.proofs.put_path.Statement.{statement}
+use Rattle.pointer.proofs.put_path.Tie as tie
 
 length-in-requires : tie.Need-length-in-requires
 length-in-requires c κs = inside-any (c .before .before .before .before .args .path) (c .before .before .before .before .args .room .limit) (length (c .before .before .before .before .args .contents .now)) (length (c .before .before .before .before .args .work .now)) (c .before .before .before .before .pre .inside)

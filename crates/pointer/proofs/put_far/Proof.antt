@@ -1,13 +1,13 @@
--- `target::put_far` meets its contract. Assumes nothing.
+-- `pointer::put_far` meets its contract. Assumes nothing.
 use native.Mathlib.Omega.{arith}
 use Rattle.path.specs.Path.{resolve}
 use lib.ListN.{take}
 use Rattle.put.specs.Put.{sourceText}
 use Rattle.put.proofs.PutLaws.{able-part}
-use Rattle.target.proofs.PutLaws.{root-over, root-able, path-same, path-over, path-able, fragment-put}
+use Rattle.pointer.proofs.PutLaws.{root-over, root-able, path-same, path-over, path-able, fragment-put}
 use borrow.Author.Needs.{needs}
-use Rattle.target.proofs.put_far.Statement.{statement}
-use Rattle.target.proofs.put_far.Tie as tie
+use Rattle.pointer.proofs.put_far.Statement.{statement}
+use Rattle.pointer.proofs.put_far.Tie as tie
 
 sub-n : tie.Need-sub-n
 sub-n c = search needs

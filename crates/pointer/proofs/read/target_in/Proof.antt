@@ -1,8 +1,8 @@
--- `target::read::target_in` meets its contract: the target is taken apart where it lies. Assumes nothing.
+-- `pointer::read::target_in` meets its contract: the target is taken apart where it lies. Assumes nothing.
 use native.Mathlib.Omega.{arith}
 use borrow.Author.Needs.{needs}
-use Rattle.target.proofs.read.target_in.Statement.{statement}
-use Rattle.target.proofs.read.target_in.Tie as tie
+use Rattle.pointer.proofs.read.target_in.Statement.{statement}
+use Rattle.pointer.proofs.read.target_in.Tie as tie
 
 sub-read-target : tie.Need-sub-read-target
 sub-read-target c = search needs
