@@ -17,7 +17,8 @@ use Rattle.walk.proofs.PartLaws.{made-by, Agrees, agrees-then, agrees-part, agr
 use Rattle.walk.proofs.StepsLaws.{ends-go, ends-part, weigh, weigh-go, weigh-go-le, weigh-part, flaw, flaw-go, flaw-part}
 use Rattle.member.specs.Member.{Prepared, prepare}
 use Rattle.shared.specs.Shared.{sharedFrom, compare}
-use Rattle.emission.specs.Emit.{titleNamed, emit, joinLines}
+use Rattle.target.specs.Titles.{titleNamed}
+use Rattle.emission.specs.Emit.{emit, joinLines}
 use Rattle.assembly.specs.Assemble.{prepareAll, emitAll, assemblePrepared, assemble}
 use Rattle.assembly.specs.Assembled.{preparedAll, joinedAll, assembledText, eachFaults, eachMade, present, preparedFaults, assemblyFaults, joins, assemblyRunning}
 

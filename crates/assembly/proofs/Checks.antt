@@ -23,7 +23,8 @@ use Rattle.shift.specs.Shift.{toldFrom, pastFrom, upTo}
 use Rattle.assembly.specs.Assemble.{prepareAll, emitAll, assemble}
 use Rattle.member.specs.Member.{withoutContents, preparedLines, titleOf, prepare, movable}
 use Rattle.shared.specs.Shared.{lineOf, earlier, sharedIn, sharedFrom}
-use Rattle.emission.specs.Emit.{titleNamed, emit}
+use Rattle.target.specs.Titles.{titleNamed}
+use Rattle.emission.specs.Emit.{emit}
 
 abbrev assemblyOf : List File → Judged (List ℕ)
 assemblyOf members = judge 0 1000 0 (assemble (bytes "https://h/") members)

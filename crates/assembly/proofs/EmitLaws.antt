@@ -3,7 +3,7 @@ use Prim.Native.Nat.{ℕ, zero, suc, _<_}
 use native.Mathlib.Omega.{arith}
 use mathlib.Core.Path.{_≡_, refl}
 use mathlib.Core.Bool.{Bool, true, false, cond}
-use mathlib.Core.List.{List, [], _∷_, _++_, map}
+use mathlib.Core.List.{List, [], _∷_, map}
 use mathlib.Core.Option.{Option, none, some}
 use lib.IntN.{ℤ, pos, _+ℤ_}
 use lib.ListN.{length, take, replicate, length-append}
@@ -14,8 +14,8 @@ use Rattle.answer.specs.declared.Refusal.the-variants.{HeadingLevel}
 use Rattle.text.specs.Bytes.{part, first}
 use Rattle.text.specs.Lines.{pieces}
 use Rattle.text.specs.Space.{lead, isBlank}
-use Rattle.heading.specs.Level.{movedTo, headingLine}
-use Rattle.heading.specs.Walk.{walkBegin, stepKind, stepAfter}
+use Rattle.heading.specs.Level.{movedTo}
+use Rattle.heading.specs.Walk.{walkBegin, stepAfter}
 use Rattle.heading.specs.declared.level.Moved.{Moved}
 use Rattle.heading.specs.declared.level.Moved.the-variants.{To, Past}
 use Rattle.heading.specs.declared.walk.LineKind.{LineKind}
@@ -25,7 +25,7 @@ use Rattle.path.specs.Path.{parentDir}
 use Rattle.link.specs.Links.{relink}
 use Rattle.link.specs.Target.{rewriteTarget}
 use Rattle.index.specs.Index.{File}
-use Rattle.walk.specs.Parts.{Part, good, flawed, unless}
+use Rattle.walk.specs.Parts.{good, unless}
 use Rattle.shift.specs.Shift.{Told, toldFrom, kindsOf, shiftFor, atLevel, movedLine, pastFrom, upTo, dropEnd}
 use Rattle.member.specs.Member.{withoutContents, preparedLines, Prepared, titleOf, titled, prepare, still, movable}
 use Rattle.emission.specs.Emit.{rewriteLine, emit}

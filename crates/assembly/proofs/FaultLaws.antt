@@ -7,20 +7,20 @@ use mathlib.Core.Option.{Option, none, some}
 use lib.Dec.{eqb}
 use Rattle.answer.specs.Answer.{place}
 use Rattle.answer.specs.declared.Place.{Place}
-use Rattle.answer.specs.declared.Refusal.{Refusal}
 use Rattle.answer.specs.declared.Refusal.the-variants.{HeadingLevel, SharedAnchor}
 use Rattle.text.specs.Bytes.{part}
 use Rattle.anchor.specs.Anchor.{slug}
 use Rattle.heading.specs.declared.walk.LineKind.{LineKind}
 use Rattle.heading.specs.declared.walk.LineKind.the-variants.{Quoted, Heading, Other}
 use Rattle.index.specs.Index.{File}
-use Rattle.walk.specs.Parts.{Part, partFaults, ifMade}
-use Rattle.walk.proofs.FaultLaws.{isFault, allFaults, all-append}
+use Rattle.walk.specs.Parts.{Part, partFaults}
+use Rattle.walk.proofs.FaultLaws.{allFaults, all-append}
 use Rattle.shift.specs.Shift.{Told}
 use Rattle.chains.proofs.FaultLaws.{past-fault, unless-fault}
 use Rattle.member.specs.Member.{Prepared, titleOf, titled, preparedLines, prepare}
 use Rattle.shared.specs.Shared.{earlier, sharedAt, sharedLine, sharedIn, sharedFrom}
-use Rattle.emission.specs.Emit.{titleNamed, emit}
+use Rattle.target.specs.Titles.{titleNamed}
+use Rattle.emission.specs.Emit.{emit}
 use Rattle.assembly.specs.Assembled.{eachFaults, eachMade, present, preparedFaults, assemblyFaults}
 
 -- 18

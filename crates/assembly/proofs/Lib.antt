@@ -2,3 +2,10 @@ pub mod AssembleLaws
 pub mod Checks
 pub mod FaultLaws
 pub mod EmitLaws
+pub mod PrepareLaws
+pub mod RuleLaws
+pub mod TurnLaws
+pub mod StandLaws
+pub mod EmittingLaws
+pub mod BehindLaws
+pub mod WholeLaws

@@ -13,7 +13,8 @@ use Rattle.walk.specs.Steps.{Steps, done, sized, go, part}
 use Rattle.index.specs.Index.{File}
 use Rattle.member.specs.Member.{Prepared, prepare}
 use Rattle.shared.specs.Shared.{compare}
-use Rattle.emission.specs.Emit.{titleNamed, emit, joinLines}
+use Rattle.target.specs.Titles.{titleNamed}
+use Rattle.emission.specs.Emit.{emit, joinLines}
 
 -- "All members are prepared (18)"
 unfoldable pub prepareAll : List File → Steps (List Prepared)

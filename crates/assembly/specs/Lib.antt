@@ -1,2 +1,3 @@
 pub mod Assembled
 pub mod Assemble
+pub mod Parts

@@ -6,3 +6,4 @@ pub mod ListLaws
 pub mod GivenLaws
 pub mod FillCallLaws
 pub mod FilesLaws
+pub mod AssembleCallLaws

@@ -1,29 +1,18 @@
 -- A member's lines as they are put. Nothing here is document 01's: functions promise it, and the laws of `proofs/` tie it to what is emitted.
-use Prim.Native.Nat.{ℕ, _<_}
-use mathlib.Core.Path.{_≡_}
-use mathlib.Core.List.{List, map}
-use mathlib.Core.Option.{Option, none, some}
+use Prim.Native.Nat.{ℕ, zero, suc}
+use mathlib.Core.Bool.{Bool, false, cond}
+use mathlib.Core.List.{List, [], _∷_, map}
+use lib.Dec.{eqb}
 use lib.IntN.{ℤ}
 use Rattle.text.specs.Lines.{LF}
 use Rattle.text.specs.Split.{join}
-use Rattle.text.specs.declared.pattern.Found.{Found}
-use Rattle.text.specs.declared.pattern.Found.the-variants.{At, Nothing}
+use Rattle.heading.specs.Level.{headingLine}
+use Rattle.heading.specs.declared.walk.LineKind.{LineKind}
+use Rattle.heading.specs.declared.walk.LineKind.the-variants.{Quoted, Heading, Other}
 use Rattle.shift.specs.Shift.{Told, movedLine}
-use Rattle.put.specs.Put.{sourceText}
 use Rattle.member.specs.Member.{movable}
 use Rattle.member.specs.Lines.{keptLines}
-use Rattle.members.specs.Members.{memberAt, titleSource, preparedFrom}
-use Rattle.emission.specs.Emit.{rewriteLine, titleNamed}
-
--- the titles of n members by their names
-abbrev pub titlesIn : List ℕ → List ℕ → List ℕ → List ℕ → ℕ → List ℕ → Option (List ℕ)
-titlesIn index contents work set n = titleNamed (preparedFrom index contents work set 0 n)
-
--- the last of n members that has a name, whatever the buffers hold
-abbrev pub FoundMember : List ℕ → List ℕ → ℕ → List ℕ → Found → Type 0
-FoundMember index set n name (At k) =
-    (k < n) × ((contents work : List ℕ) → titlesIn index contents work set n name ≡ some (sourceText (titleSource (memberAt set k)) contents work))
-FoundMember index set n name Nothing = (contents work : List ℕ) → titlesIn index contents work set n name ≡ none
+use Rattle.emission.specs.Emit.{rewriteLine}
 
 -- what a line becomes, each link's target t being f t; and the lines that a member keeps, the first H1 being no heading to be moved
 abbrev pub emittedLine : (List ℕ → List ℕ) → ℤ → Told → List ℕ
@@ -34,3 +23,22 @@ emittedLines f z s = map (emittedLine f z) (movable (keptLines s))
 
 abbrev pub emittedText : (List ℕ → List ℕ) → ℤ → List ℕ → List ℕ
 emittedText f z s = join LF (emittedLines f z s)
+
+-- whether a line is an H1; and what it is where the title stands before it or not
+abbrev pub isTitle : LineKind → Bool
+isTitle Quoted = false
+isTitle (Heading n a e) = eqb n 1
+isTitle Other = false
+
+abbrev pub kindAfter : Bool → LineKind → LineKind
+kindAfter titled k = cond titled k (cond (isTitle k) Other k)
+
+-- what stands before a line that has n lines before it
+abbrev pub breakBefore : ℕ → List ℕ
+breakBefore zero = []
+breakBefore (suc n) = LF ∷ []
+
+-- what stands before the text of a line of a level: a heading's hashes and space, or nothing
+abbrev pub levelOf : ℕ → List ℕ
+levelOf zero = []
+levelOf (suc n) = headingLine (suc n) []

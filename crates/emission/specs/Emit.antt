@@ -1,11 +1,10 @@
 -- Document 01, "Assembly and book": a member emitted, and members joined.
 use Prim.Native.Nat.{ℕ}
-use mathlib.Core.Bool.{cond}
 use mathlib.Core.List.{List, [], _∷_, _++_, map}
-use mathlib.Core.Option.{Option, none, some}
+use mathlib.Core.Option.{Option}
 use Rattle.answer.specs.Answer.{place}
 use Rattle.answer.specs.declared.Refusal.the-variants.{HeadingLevel}
-use Rattle.text.specs.Pattern.{bytes, equals}
+use Rattle.text.specs.Pattern.{bytes}
 use Rattle.heading.specs.declared.walk.LineKind.{LineKind}
 use Rattle.heading.specs.declared.walk.LineKind.the-variants.{Quoted, Heading, Other}
 use Rattle.path.specs.Path.{parentDir}
@@ -20,11 +19,6 @@ abbrev pub rewriteLine : (List ℕ → List ℕ) → LineKind → List ℕ → L
 rewriteLine f Quoted l = l
 rewriteLine f (Heading n a e) l = relink f l
 rewriteLine f Other l = relink f l
-
--- "For a name listed twice the later title serves links."
-unfoldable pub titleNamed : List Prepared → List ℕ → Option (List ℕ)
-titleNamed [] name = none
-titleNamed (m ∷ ms) name = elim (titleNamed ms name) [ none ↦ cond (equals (m .name) name) (some (m .title)) none | some t ↦ some t ]
 
 -- "shifted to 2, title excepted (16)"; "Here 16, 18 and 19 stand at the member; lines count its prepared lines."
 unfoldable pub emit : (List ℕ → Option (List ℕ)) → List ℕ → Prepared → Part (List (List ℕ))

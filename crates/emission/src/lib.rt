@@ -9,7 +9,212 @@ ghost use Rattle.link.specs.Target.{rewriteTarget};
 ghost use Rattle.put.specs.Put.{sourceText, Able, Wrote};
 ghost use Rattle.put.specs.NewText.{KindIn};
 ghost use Rattle.members.specs.Members.{AllStand};
-ghost use Rattle.emission.specs.Emission.{titlesIn, emittedLine, emittedText};
+ghost use Rattle.target.specs.Titles.{titlesIn};
+ghost use Rattle.emission.specs.Emission.{emittedLine, emittedText, isTitle, kindAfter, breakBefore, levelOf};
+use heading::walk::LineKind;
+use link::links::NextLink;
+use member::lines::NextLine;
+use put::Put;
+use put::Room;
+use put::Source;
+use put::line;
 
 pub mod read;
-pub mod target;
+
+// A source with each link's target as it becomes in a directory.
+pub fn put_links(
+    index: &[u8],
+    contents: &[u8],
+    url: &[u8],
+    set: &[usize; 704],
+    count: usize,
+    source: Source,
+    dir: &[u8],
+    room: Room,
+    work: &mut [u8],
+) -> Put
+    requires { ⌜ Able source room (now contents) (now work) × AllStand (now index) (length (now contents)) (room .limit) (length (now work)) (now set) count ⌝ }
+    ensures { λ r. ⌜ Wrote room (relink (rewriteTarget (titlesIn (now (index .entry)) (now (contents .entry)) (now (work .entry)) (now (set .entry)) count) (now (url .entry)) (now (dir .entry))) (sourceText source (now (contents .entry)) (now (work .entry)))) (now (work .entry)) (now (work .exit)) r ⌝ }
+{
+    let limit = room.limit;
+    let n = source.end - source.start;
+    let mut at = room.at;
+    let mut i = 0;
+    loop {
+        let NextLink::Link { start: a, end: e } = read::link_in(contents, work, source, i) else {
+            return put::put_part(contents, source, i, n, Room { at, limit }, work);
+        };
+        let Put::To(m) = put::put_part(contents, source, i, a, Room { at, limit }, work) else {
+            return Put::Over;
+        };
+        let target = put::part_of(source, a, e);
+        let Put::To(behind) = target::put_target(
+            index,
+            contents,
+            url,
+            set,
+            count,
+            target,
+            dir,
+            Room { at: m, limit },
+            work,
+        ) else {
+            return Put::Over;
+        };
+        at = behind;
+        i = e;
+    }
+}
+
+// A heading's hashes and space, or nothing for level 0.
+fn put_level(level: usize, room: Room, work: &mut [u8]) -> Put
+    requires { ⌜ (level ≤ 6) × ((room .at ≤ room .limit) × (room .limit ≤ length (now work))) ⌝ }
+    ensures { λ r. ⌜ Wrote room (levelOf level) (now (work .entry)) (now (work .exit)) r ⌝ }
+{
+    if level == 0 {
+        return Put::To(room.at);
+    }
+    put::put_hashes(level, room, work)
+}
+
+// A line that stands from a place up to another: a quoted one as it is, any other moved and with its links rewritten.
+fn put_line(
+    index: &[u8],
+    contents: &[u8],
+    url: &[u8],
+    set: &[usize; 704],
+    count: usize,
+    source: Source,
+    kind: LineKind,
+    start: usize,
+    end: usize,
+    shift: i32,
+    dir: &[u8],
+    room: Room,
+    work: &mut [u8],
+) -> Put
+    requires { ⌜ Able source room (now contents) (now work) × (AllStand (now index) (length (now contents)) (room .limit) (length (now work)) (now set) count × ((start ≤ end) × ((source .start + end ≤ source .end) × (KindIn (end - start) kind × (mag shift ≤ 7))))) ⌝ }
+    ensures { λ r. ⌜ Wrote room (emittedLine (rewriteTarget (titlesIn (now (index .entry)) (now (contents .entry)) (now (work .entry)) (now (set .entry)) count) (now (url .entry)) (now (dir .entry))) shift (record { kind = kind; bytes = part start end (sourceText source (now (contents .entry)) (now (work .entry))) })) (now (work .entry)) (now (work .exit)) r ⌝ }
+{
+    if let LineKind::Quoted = kind {
+        return put::put_part(contents, source, start, end, room, work);
+    }
+    let limit = room.limit;
+    let new = line::new_text(kind, shift, start, end);
+    let Put::To(at) = put_level(new.level, room, work) else {
+        return Put::Over;
+    };
+    let text = put::part_of(source, new.start, new.end);
+    put_links(
+        index,
+        contents,
+        url,
+        set,
+        count,
+        text,
+        dir,
+        Room { at, limit },
+        work,
+    )
+}
+
+// Whether a line is an H1.
+fn is_title(kind: LineKind) -> bool
+    ensures { λ r. ⌜ r ≡ isTitle kind ⌝ }
+{
+    let LineKind::Heading {
+        level,
+        start: _,
+        end: _,
+    } = kind
+    else {
+        return false;
+    };
+    level == 1
+}
+
+// What a line is where the title stands before it or not: the title is no heading to be moved.
+fn kind_after(titled: bool, kind: LineKind) -> LineKind
+    ensures { λ r. ⌜ r ≡ kindAfter titled kind ⌝ }
+{
+    if titled {
+        return kind;
+    }
+    if is_title(kind) {
+        return LineKind::Other;
+    }
+    kind
+}
+
+// What stands before a line that has n lines before it: an LF, or nothing.
+fn put_break(n: usize, room: Room, work: &mut [u8]) -> Put
+    requires { ⌜ (room .at ≤ room .limit) × (room .limit ≤ length (now work)) ⌝ }
+    ensures { λ r. ⌜ Wrote room (breakBefore n) (now (work .entry)) (now (work .exit)) r ⌝ }
+{
+    let at = room.at;
+    if n == 0 {
+        return Put::To(at);
+    }
+    if at == room.limit {
+        return Put::Over;
+    }
+    work[at] = b'\n';
+    Put::To(at + 1)
+}
+
+// The lines that a member keeps of a source, its file being in a directory.
+pub fn put_lines(
+    index: &[u8],
+    contents: &[u8],
+    url: &[u8],
+    set: &[usize; 704],
+    count: usize,
+    source: Source,
+    dir: &[u8],
+    shift: i32,
+    room: Room,
+    work: &mut [u8],
+) -> Put
+    requires { ⌜ Able source room (now contents) (now work) × (AllStand (now index) (length (now contents)) (room .limit) (length (now work)) (now set) count × (mag shift ≤ 7)) ⌝ }
+    ensures { λ r. ⌜ Wrote room (emittedText (rewriteTarget (titlesIn (now (index .entry)) (now (contents .entry)) (now (work .entry)) (now (set .entry)) count) (now (url .entry)) (now (dir .entry))) shift (sourceText source (now (contents .entry)) (now (work .entry)))) (now (work .entry)) (now (work .exit)) r ⌝ }
+{
+    let limit = room.limit;
+    let mut at = room.at;
+    let mut c = member::lines::first();
+    let mut titled = false;
+    loop {
+        let NextLine::Line {
+            start: a,
+            end: e,
+            kind,
+            behind,
+        } = read::line_in(contents, work, source, c)
+        else {
+            return Put::To(at);
+        };
+        let Put::To(m) = put_break(c.line, Room { at, limit }, work) else {
+            return Put::Over;
+        };
+        let moved = kind_after(titled, kind);
+        let Put::To(n) = put_line(
+            index,
+            contents,
+            url,
+            set,
+            count,
+            source,
+            moved,
+            a,
+            e,
+            shift,
+            dir,
+            Room { at: m, limit },
+            work,
+        ) else {
+            return Put::Over;
+        };
+        at = n;
+        c = behind;
+        titled = titled | is_title(kind);
+    }
+}

@@ -1,23 +1,14 @@
-// Lines, links and targets of members, read where they lie while the work buffer is written: only these functions look there.
-ghost use mathlib.Core.Path.{_≡_};
+// Lines and links of members, read where they lie while the work buffer is written: only these functions look there.
 ghost use Prim.Native.Nat.{_-_, _≤_};
 ghost use lib.ListN.{length};
-ghost use Rattle.anchor.specs.Anchor.{slug, anchorFrom, CursorWithin, NextByte};
-ghost use Rattle.path.specs.Path.{resolve, Resolves};
 ghost use Rattle.link.specs.Links.{FoundLink};
-ghost use Rattle.link.specs.Target.{targetOf};
 ghost use Rattle.put.specs.Put.{sourceText, Inside};
 ghost use Rattle.member.specs.Lines.{CursorIn, FoundLine};
-use anchor::AnchorByte;
-use anchor::AnchorCursor;
 use link::links;
 use link::links::NextLink;
-use link::target;
-use link::target::Target;
 use member::lines;
 use member::lines::LineCursor;
 use member::lines::NextLine;
-use path::Resolved;
 use put::Source;
 
 // The next line that a source keeps, from a cursor on.
@@ -44,76 +35,4 @@ pub fn link_in(contents: &[u8], work: &[u8], source: Source, from: usize) -> Nex
         return links::next_link(&work[a..e], from);
     }
     links::next_link(&contents[a..e], from)
-}
-
-// A target taken apart.
-pub fn target_in(contents: &[u8], work: &[u8], target: Source) -> Target
-    requires { ⌜ Inside target 0 (length (now contents)) (length (now work)) ⌝ }
-    ensures { λ r. ⌜ r ≡ targetOf (sourceText target (now (contents .entry)) (now (work .entry))) ⌝ }
-{
-    let a = target.start;
-    let e = target.end;
-    if target.work {
-        return target::read_target(&work[a..e]);
-    }
-    target::read_target(&contents[a..e])
-}
-
-// A path in a directory, resolved at the end of a buffer.
-pub fn resolve_in(
-    contents: &[u8],
-    work: &[u8],
-    path: Source,
-    dir: &[u8],
-    out: &mut [u8; 256],
-) -> Resolved
-    requires { ⌜ Inside path 0 (length (now contents)) (length (now work)) ⌝ }
-    ensures { λ r. ⌜ Resolves (now (dir .entry)) (sourceText path (now (contents .entry)) (now (work .entry))) (now (out .exit)) r ⌝ }
-{
-    let a = path.start;
-    let e = path.end;
-    if path.work {
-        return path::resolve_into(&work[a..e], dir, out);
-    }
-    path::resolve_into(&contents[a..e], dir, out)
-}
-
-// How long a path in a directory is once it is resolved.
-pub fn length_in(contents: &[u8], work: &[u8], path: Source, dir: &[u8]) -> usize
-    requires { ⌜ Inside path 0 (length (now contents)) (length (now work)) ⌝ }
-    ensures { λ r. ⌜ r ≡ length (resolve (now (dir .entry)) (sourceText path (now (contents .entry)) (now (work .entry)))) ⌝ }
-{
-    let a = path.start;
-    let e = path.end;
-    if path.work {
-        return path::resolved_length(&work[a..e], dir);
-    }
-    path::resolved_length(&contents[a..e], dir)
-}
-
-// The cursor at the start of the anchor of a title.
-pub fn anchor_in(contents: &[u8], work: &[u8], title: Source) -> AnchorCursor
-    requires { ⌜ Inside title 0 (length (now contents)) (length (now work)) ⌝ }
-    ensures { λ r. ⌜ anchorFrom r (sourceText title (now (contents .entry)) (now (work .entry))) ≡ slug (sourceText title (now (contents .entry)) (now (work .entry))) ⌝ }
-    ensures { λ r. ⌜ CursorWithin r (sourceText title (now (contents .entry)) (now (work .entry))) ⌝ }
-{
-    let a = title.start;
-    let e = title.end;
-    if title.work {
-        return anchor::start(&work[a..e]);
-    }
-    anchor::start(&contents[a..e])
-}
-
-// The next byte of the anchor of a title.
-pub fn byte_in(contents: &[u8], work: &[u8], title: Source, from: AnchorCursor) -> AnchorByte
-    requires { ⌜ Inside title 0 (length (now contents)) (length (now work)) × CursorWithin from (sourceText title (now contents) (now work)) ⌝ }
-    ensures { λ r. ⌜ NextByte (sourceText title (now (contents .entry)) (now (work .entry))) from r ⌝ }
-{
-    let a = title.start;
-    let e = title.end;
-    if title.work {
-        return anchor::next(&work[a..e], from);
-    }
-    anchor::next(&contents[a..e], from)
 }

@@ -1,2 +1,6 @@
 pub mod LinesLaws
 pub mod HeadingLaws
+pub mod TitleLaws
+pub mod EndLaws
+pub mod OutlineLaws
+pub mod BelowLaws

@@ -1,3 +1,4 @@
 pub mod Member
 pub mod Lines
 pub mod Outline
+pub mod Seen

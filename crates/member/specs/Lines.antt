@@ -4,7 +4,7 @@ use mathlib.Core.Path.{_≡_}
 use mathlib.Core.Bool.{false, cond}
 use mathlib.Core.List.{List, [], _∷_, _++_}
 use lib.Dec.{leb}
-use lib.ListN.{length, drop}
+use lib.ListN.{length, take, drop}
 use Rattle.text.specs.Bytes.{part}
 use Rattle.text.specs.Lines.{pieces}
 use Rattle.heading.specs.Walk.{stepKind, stepAfter, walkBegin}
@@ -38,7 +38,7 @@ atFirst = record { at = 0; line = 0; state = walkBegin }
 abbrev pub CursorIn : LineCursor → List ℕ → Type 0
 CursorIn c s = (c .line ≤ c .at) × (c .at ≤ suc (length s))
 
--- the next line kept, of the kind k, stands from a up to e, and d is the cursor behind it
+-- the next line kept, of the kind k, stands from a up to e, and d is the cursor behind it; so it is in the text up to any place behind it
 pub record IsLine (s : List ℕ) (c : LineCursor) (a e : ℕ) (k : LineKind) (d : LineCursor) : Type 0 where
   pub order : c .at ≤ a
   pub forward : a ≤ e
@@ -46,6 +46,7 @@ pub record IsLine (s : List ℕ) (c : LineCursor) (a e : ℕ) (k : LineKind) (d 
   pub kind : k ≡ stepKind (c .state .fence) (c .state .comment) (part a e s)
   pub after : d ≡ record { at = e + 1; line = c .line + 1; state = stepAfter (c .state .fence) (c .state .comment) (part a e s) }
   pub left : leftOf c s ≡ record { kind = k; bytes = part a e s } ∷ leftOf d s
+  pub upTo : (n : ℕ) → e ≤ n → n ≤ length s → leftOf c (take n s) ≡ record { kind = k; bytes = part a e s } ∷ leftOf d (take n s)
 
 abbrev pub FoundLine : List ℕ → LineCursor → NextLine → Type 0
 FoundLine s c (Line a e k d) = IsLine s c a e k d

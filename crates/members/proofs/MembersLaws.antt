@@ -21,7 +21,7 @@ use Rattle.text.proofs.BytesLaws.{part-length, drop-take}
 use Rattle.answer.specs.declared.Refusal.the-variants.{NoTitle}
 use Rattle.index.specs.Index.{File, fileOf}
 use Rattle.walk.specs.Parts.{good, flawed}
-use Rattle.put.specs.Put.{sourceText, Held, Inside}
+use Rattle.put.specs.Put.{sourceText, Held, Inside, partOf}
 use Rattle.put.specs.declared.Source.{Source}
 use Rattle.put.proofs.PutLaws.{source-part}
 use Rattle.member.specs.Member.{Prepared, preparedLines, titleOf, titled, prepare}
@@ -177,6 +177,14 @@ module _ (index contents work set : List ℕ) where
   prepared-length i zero = refl
   prepared-length i (suc n) = ap suc (prepared-length (i + 1) n)
 
+  pub prepared-at : (i n : ℕ) → i < n → preparedFrom index contents work set i (n - i) ≡ preparedIn index contents work (memberAt set i) ∷ preparedFrom index contents work set (i + 1) (n - (i + 1))
+  unfolding preparedFrom
+  prepared-at i n h = let e : n - i ≡ suc (n - (i + 1)) = omega arith in rw e
+
+  pub prepared-end : (i n : ℕ) → n ≤ i → preparedFrom index contents work set i (n - i) ≡ []
+  unfolding preparedFrom
+  prepared-end i n h = let e : n - i ≡ 0 = omega arith in rw e
+
   files-last : (i n : ℕ) → filesFrom index contents work set i (suc n) ≡ filesFrom index contents work set i n ++ (fileIn index contents work (memberAt set (i + n)) ∷ [])
   unfolding filesFrom
   files-last i zero = rw (add-zero i)
@@ -186,6 +194,14 @@ module _ (index contents work set : List ℕ) where
 
   pub files-more : (i n : ℕ) → filesFrom index contents work set i (n + 1) ≡ filesFrom index contents work set i n ++ (fileIn index contents work (memberAt set (i + n)) ∷ [])
   files-more i n = rw (add-one n) (files-last i n)
+
+  pub files-at : (i n : ℕ) → i < n → filesFrom index contents work set i (n - i) ≡ fileIn index contents work (memberAt set i) ∷ filesFrom index contents work set (i + 1) (n - (i + 1))
+  unfolding filesFrom
+  files-at i n h = let e : n - i ≡ suc (n - (i + 1)) = omega arith in rw e
+
+  pub files-end : (i n : ℕ) → n ≤ i → filesFrom index contents work set i (n - i) ≡ []
+  unfolding filesFrom
+  files-end i n h = let e : n - i ≡ 0 = omega arith in rw e
 
   pub files-length : (i n : ℕ) → length (filesFrom index contents work set i n) ≡ n
   unfolding filesFrom
@@ -245,6 +261,22 @@ module _ (source : Source) (limit n stop : ℕ) (contents v w : List ℕ) (h : I
   pub source-on : drop limit v ≡ drop limit w → sourceText source contents v ≡ sourceText source contents w
   source-on q = held-on (source .work) (source .start) (source .end) limit n stop contents v w (h .1) q
 
+-- a part of a source lies where the source does, and a source lies in a longer work buffer
+held-part : (b : Bool) (s t a e limit c w : ℕ) → a ≤ e → s + e ≤ t → Held b s t limit c w → Held b (s + a) (s + e) limit c w
+held-part true s t a e limit c w h k q = (omega arith, omega arith)
+held-part false s t a e limit c w h k q = omega arith
+
+held-more : (b : Bool) (a e limit c w v : ℕ) → w ≤ v → Held b a e limit c w → Held b a e limit c v
+held-more true a e limit c w v q h = (omega arith, omega arith)
+held-more false a e limit c w v q h = h
+
+module _ (source : Source) (limit c w : ℕ) (h : Inside source limit c w) where
+  pub inside-part : (a e : ℕ) → a ≤ e → source .start + e ≤ source .end → Inside (partOf source a e) limit c w
+  inside-part a e j k = (omega arith, held-part (source .work) (source .start) (source .end) a e limit c w j k (h .1))
+
+  pub inside-more : (v : ℕ) → w ≤ v → Inside source limit c v
+  inside-more v k = (h .0, held-more (source .work) (source .start) (source .end) limit c w v k (h .1))
+
 -- a member's lines and its title are parts of its text
 module _ {index n limit stop : ℕ} {m : Member} (s : Stands index n limit stop m) (contents work : List ℕ) where
   pub text-part : sourceText (textSource m) contents work ≡ take (m .outline .end) (sourceText (m .source) contents work)
@@ -252,6 +284,13 @@ module _ {index n limit stop : ℕ} {m : Member} (s : Stands index n limit stop 
 
   pub title-part : sourceText (titleSource m) contents work ≡ part (m .outline .title .start) (m .outline .title .end) (sourceText (m .source) contents work)
   title-part = source-part (m .source) contents work (m .outline .title .start) (m .outline .title .end) (omega (arith, s .text, s .title))
+
+module _ {index n limit stop : ℕ} {m : Member} (s : Stands index n limit stop m) where
+  pub text-inside : Inside (textSource m) limit n stop
+  text-inside = inside-part (m .source) limit n stop (s .lies .inside) 0 (m .outline .end) (omega arith) (s .text)
+
+  pub title-inside : Inside (titleSource m) limit n stop
+  title-inside = inside-part (m .source) limit n stop (s .lies .inside) (m .outline .title .start) (m .outline .title .end) (s .order) (omega (arith, s .text, s .title))
 
 pub prepared-same : {size n limit stop : ℕ} (index contents v w : List ℕ) (m : Member) → Stands size n limit stop m
     → sourceText (m .source) contents v ≡ sourceText (m .source) contents w → preparedIn index contents v m ≡ preparedIn index contents w m

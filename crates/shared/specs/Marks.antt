@@ -1,9 +1,11 @@
 -- The table of marks, which spares comparisons, and what the functions find. Nothing here is document 01's: functions promise it.
-use Prim.Native.Nat.{ℕ, zero, suc, _+_, _*_, _≤_, _<_, _/_, _%_}
+use Prim.Native.Nat.{ℕ, _≤_, _/_, _%_}
 use mathlib.Core.Path.{_≡_}
-use mathlib.Core.Bool.{Bool, true, false}
+use mathlib.Core.Bool.{Bool, true, false, cond}
+use mathlib.Core.Logic.{_⊎_}
 use mathlib.Core.List.{List, [], _∷_}
-use lib.ListN.{length, take, getD}
+use lib.Dec.{eqb}
+use lib.ListN.{length, getD}
 use Rattle.answer.specs.declared.Refusal.{Refusal}
 use Rattle.answer.specs.declared.Refusal.the-variants.{SharedAnchor}
 use Rattle.text.specs.Bytes.{part}
@@ -18,6 +20,10 @@ use Rattle.shared.specs.declared.Shared.the-variants.{Nowhere, At}
 -- 255 stands where several files have a mark
 abbrev pub MANY : ℕ
 MANY = 255
+
+-- what a place becomes where a file is marked and a mark stood there, or 0
+abbrev pub markOn : ℕ → ℕ → ℕ
+markOn old file = cond (eqb old 0) file (cond (eqb old file) file MANY)
 
 -- a place of the table tells of a file
 abbrev pub Holds : List ℕ → ℕ → ℕ → Type 0
@@ -53,3 +59,8 @@ Tells table (q ∷ qs) = TellsLines table (q .file) (q .lines) × Tells table qs
 abbrev pub SharedOf : List Refusal → Shared → Type 0
 SharedOf xs Nowhere = xs ≡ []
 SharedOf xs (At p q) = (ys : List Refusal) × (xs ≡ SharedAnchor p q ∷ ys)
+
+-- where nothing was found, the table tells of members
+abbrev pub TellsAfter : Shared → List ℕ → List Prepared → Type 0
+TellsAfter Nowhere table qs = Tells table qs
+TellsAfter (At p q) table qs = Unit {0}

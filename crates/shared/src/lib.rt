@@ -2,13 +2,14 @@
 ghost use mathlib.Core.Path.{_≡_};
 ghost use mathlib.Core.List.{[]};
 ghost use Prim.Native.Nat.{_+_, _≤_, _<_};
-ghost use lib.ListN.{length, take, drop};
+ghost use lib.ListN.{length, take};
+ghost use Rattle.text.specs.Bytes.{part};
 ghost use Rattle.anchor.specs.Anchor.{slug};
 ghost use Rattle.put.specs.Put.{sourceText, Inside};
 ghost use Rattle.member.specs.Lines.{keptLines};
 ghost use Rattle.members.specs.Members.{memberAt, nameOf, preparedIn, preparedFrom, AllStand};
 ghost use Rattle.shared.specs.Shared.{lineOf, earlier as earlierOf, sharedIn, sharedFrom};
-ghost use Rattle.shared.specs.Marks.{Tells, SharedOf};
+ghost use Rattle.shared.specs.Marks.{Tells, TellsAfter, SharedOf};
 use answer::Place;
 use member::lines;
 use member::lines::NextHeading;
@@ -71,7 +72,7 @@ fn earlier(
         let other = m.name;
         let b = other.start;
         let f = other.end;
-        if !pattern::equals(&index[a..e], &index[b..f]) {
+        if !pattern::equals(&index[b..f], &index[a..e]) {
             let line = anchor_line(contents, work, members::text_of(m), heading);
             if line != 0 {
                 return Place { file: m.file, line };
@@ -93,11 +94,11 @@ fn compare_member(
     work: &mut [u8],
 ) -> Shared
     requires { ⌜ AllStand (now index) (length (now contents)) 0 table (now set) (i + 1) × ((table < stop) × (stop ≤ length (now work))) ⌝ }
-    requires { ⌜ Tells (drop table (take stop (now work))) (preparedFrom (now index) (now contents) (now work) (now set) 0 i) ⌝ }
+    requires { ⌜ Tells (part table stop (now work)) (preparedFrom (now index) (now contents) (now work) (now set) 0 i) ⌝ }
     ensures { λ r. ⌜ SharedOf (sharedIn (preparedFrom (now (index .entry)) (now (contents .entry)) (now (work .entry)) (now (set .entry)) 0 i)
         (preparedIn (now (index .entry)) (now (contents .entry)) (now (work .entry)) (memberAt (now (set .entry)) i)) 1
         (preparedIn (now (index .entry)) (now (contents .entry)) (now (work .entry)) (memberAt (now (set .entry)) i) .lines)) r ⌝ }
-    ensures { λ r. ⌜ r ≡ Shared.Nowhere → Tells (drop table (take stop (now (work .exit)))) (preparedFrom (now (index .entry)) (now (contents .entry)) (now (work .exit)) (now (set .entry)) 0 (i + 1)) ⌝ }
+    ensures { λ r. ⌜ TellsAfter r (part table stop (now (work .exit))) (preparedFrom (now (index .entry)) (now (contents .entry)) (now (work .entry)) (now (set .entry)) 0 (i + 1)) ⌝ }
     ensures { λ _. ⌜ take table (now (work .exit)) ≡ take table (now (work .entry)) ⌝ }
 {
     let m = members::member_at(set, i);

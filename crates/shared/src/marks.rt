@@ -1,13 +1,18 @@
 // The table of marks. An anchor's number has two places in it, and a mark there is the number of a file that has the anchor, or MANY. So what
 // stands at both places tells which file can have an anchor of that number; the table spares work and decides nothing.
+ghost use mathlib.Core.Path.{_≡_};
 ghost use Prim.Native.Nat.{_≤_, _<_};
-ghost use lib.ListN.{length};
-ghost use Rattle.shared.specs.Marks.{Marks};
+ghost use lib.ListN.{length, getD, set};
+ghost use Rattle.shared.specs.Marks.{markOn, Marks};
 
 const MANY: u8 = 255;
 
 // Marks a place with a file's number, or as MANY where another's stands, and answers what stood there.
-fn mark(table: &mut [u8], at: usize, file: u8) -> u8 {
+fn mark(table: &mut [u8], at: usize, file: u8) -> u8
+    requires { ⌜ at < length (now table) ⌝ }
+    ensures { λ r. ⌜ r ≡ getD (now (table .entry)) at 0 ⌝ }
+    ensures { λ _. ⌜ now (table .exit) ≡ set (now (table .entry)) at (markOn (getD (now (table .entry)) at 0) file) ⌝ }
+{
     let old = table[at];
     if old == 0 {
         table[at] = file;

@@ -30,7 +30,8 @@ use Rattle.walk.specs.Outcome.{Outcome, text, refusal}
 use Rattle.shift.specs.Shift.{toldFrom, pastFrom as headingsPast, upTo}
 use Rattle.member.specs.Member.{withoutContents, preparedLines, titleOf, prepare, movable}
 use Rattle.shared.specs.Shared.{lineOf as anchorLine, earlier, sharedIn, sharedFrom}
-use Rattle.emission.specs.Emit.{titleNamed, emit}
+use Rattle.target.specs.Titles.{titleNamed}
+use Rattle.emission.specs.Emit.{emit}
 use Rattle.assembly.specs.Assemble.{prepareAll, emitAll, assemble}
 use Rattle.book.specs.Calls.{assembleOutcome}
 

@@ -39,7 +39,8 @@ use Rattle.assembly.specs.Assemble.{prepareAll, emitAll, assemble}
 use Rattle.assembly.specs.Assembled.{preparedAll, joinedAll, assembledText, eachFaults, eachMade, present, joins}
 use Rattle.member.specs.Member.{withoutContents, preparedLines, titleOf, prepare, movable}
 use Rattle.shared.specs.Shared.{lineOf as lineOf-of-assemblyMember, earlier, sharedIn, sharedFrom}
-use Rattle.emission.specs.Emit.{titleNamed, emit}
+use Rattle.target.specs.Titles.{titleNamed}
+use Rattle.emission.specs.Emit.{emit}
 use Rattle.book.specs.BookWalk.{walkAll, book}
 use Rattle.book.specs.Book.{withTexts, madeAll, bookText, madeMembers}
 use Rattle.book.specs.Calls.{fillOutcome, assembleOutcome, bookOutcome}

@@ -1,7 +1,4 @@
 -- `member::lines::first` meets its contract. Assumes nothing.
-use mathlib.Core.Path.{ap}
-use Rattle.heading.specs.declared.walk.WalkState.{WalkState}
-use Rattle.member.specs.declared.lines.LineCursor.{LineCursor}
 use borrow.Author.Needs.{needs}
 use Rattle.member.proofs.lines.first.Statement.{statement}
 use Rattle.member.proofs.lines.first.Tie as tie

@@ -2,10 +2,11 @@
 use Prim.Native.Nat.{suc, _-_}
 use native.Mathlib.Omega.{arith}
 use borrow.Author.Needs.{needs}
-use mathlib.Core.Path.{refl, sym, _∙_}
+use mathlib.Core.Path.{sym, _∙_}
 use lib.ListN.{length}
 use borrow.Author.Tests.{not-true, not-false}
-use Rattle.member.proofs.LinesLaws.{lines-step, Kept, kept-drop, kept-none, kept-line}
+use Rattle.member.proofs.LinesLaws.{lines-cut, Kept, kept-none, kept-end, kept-drop, kept-line}
+use Rattle.text.specs.Lines.{piecesAfter}
 use Rattle.member.proofs.lines.next_line.Statement.{statement}
 use Rattle.member.proofs.lines.next_line.Tie as tie
 
@@ -19,7 +20,7 @@ add-line : tie.Need-add-line Inv-loop μ-loop
 add-line c = omega arith
 
 loop-holds : tie.Need-loop-holds Inv-loop μ-loop
-loop-holds c = record { order = omega arith; inside = omega arith; same = refl }
+loop-holds c = kept-none _ _ (omega arith)
 
 piece-requires : tie.Need-piece-requires Inv-loop μ-loop
 piece-requires c κs = omega arith
@@ -54,7 +55,7 @@ add-t19 c = omega arith
 returns : tie.Need-returns Inv-loop μ-loop
 returns c =
     let s = c .before .before .before .before .before .before .before .before .before .before .before .before .args .s .now in let l = c .before .before .before .before .before .before .before .before .loop in let p = c .before .before .before .before .before .before .piece in let e = p .result .end in
-    kept-line (c .before .before .before .before .before .before .before .before .before .before .before .before .args .from) e (l .inv) (lines-step s (l .a) e (p .result .last) (omega arith) (p .ensures .0) (p .ensures .1)) (omega arith)
+    kept-line (c .before .before .before .before .before .before .before .before .before .before .before .before .args .from) e (l .inv) (lines-cut s (l .a) e (piecesAfter (p .result .last) e s) (omega arith) (omega arith) (p .ensures .0)) (omega arith)
     (sym (c .before .before .before .before .drops .ensures) ∙ not-true _ (c .before .before .before .if1 .taken)) (c .before .step .ensures .0) (c .before .step .ensures .1)
 
 add-a : tie.Need-add-a Inv-loop μ-loop
@@ -66,10 +67,10 @@ loop-less c = omega arith
 loop-again : tie.Need-loop-again Inv-loop μ-loop
 loop-again c =
     let s = c .before .before .before .before .before .before .before .before .before .args .s .now in let l = c .before .before .before .before .before .loop in let p = c .before .before .before .piece in let e = p .result .end in
-    kept-drop e (l .inv) (lines-step s (l .a) e (p .result .last) (omega arith) (p .ensures .0) (p .ensures .1)) (omega arith) (c .before .drops .ensures) (not-false _ (c .if1 .left))
+    kept-drop _ e (l .inv) (lines-cut s (l .a) e (piecesAfter (p .result .last) e s) (omega arith) (omega arith) (p .ensures .0)) (omega arith) (c .before .drops .ensures) (not-false _ (c .if1 .left))
 
 returns-2 : tie.Need-returns-2 Inv-loop μ-loop
-returns-2 c = kept-none (c .before .before .before .before .before .args .from) (c .before .loop .inv) (omega arith)
+returns-2 c = kept-end (c .before .before .before .before .before .args .from) (c .before .loop .inv) (omega arith)
 
 pub next-line-spec : {M : Type 1} → statement M
 next-line-spec =

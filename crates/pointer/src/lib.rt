@@ -1,47 +1,22 @@
-// What a link's target becomes: the anchor of a member's title, a kept fragment, or the path at the repository.
+// What a link points to, as it is put: `#` and the anchor of a title, or a path at the repository.
 ghost use mathlib.Core.List.{_∷_, _++_};
-ghost use mathlib.Core.Path.{_≡_};
-ghost use Prim.Native.Nat.{_+_, _-_, _≤_, _<_};
+ghost use Prim.Native.Nat.{_-_, _≤_};
 ghost use lib.ListN.{length, take, drop};
 ghost use Rattle.text.specs.Pattern.{bytes};
 ghost use Rattle.anchor.specs.Anchor.{slug};
 ghost use Rattle.path.specs.Path.{resolve};
-ghost use Rattle.link.specs.Target.{trimSlashes, outside, placed, rewriteTarget};
+ghost use Rattle.link.specs.Target.{trimSlashes, outside};
 ghost use Rattle.put.specs.Put.{sourceText, Able, Wrote};
-ghost use Rattle.members.specs.Members.{AllStand};
-ghost use Rattle.emission.specs.Emission.{titlesIn, FoundMember};
-use crate::read;
 use anchor::AnchorByte;
 use link::target;
-use link::target::Target;
-use path::Resolved;
 use put::Put;
 use put::Room;
 use put::Source;
-use text::pattern;
-use text::pattern::Found;
 
-// The last member of a name.
-fn find_member(index: &[u8], set: &[usize; 704], count: usize, name: &[u8]) -> Found
-    requires { ⌜ AllStand (now index) contents limit stop (now set) count ⌝ }
-    ensures { λ r. ⌜ FoundMember (now (index .entry)) (now (set .entry)) count (now (name .entry)) r ⌝ }
-{
-    let mut k = count;
-    while 0 < k {
-        k -= 1;
-        let m = members::member_at(set, k);
-        let other = m.name;
-        let a = other.start;
-        let e = other.end;
-        if pattern::equals(&index[a..e], name) {
-            return Found::At(k);
-        }
-    }
-    Found::Nothing
-}
+pub mod read;
 
 // `#` and the anchor of a title.
-fn put_anchor(contents: &[u8], title: Source, room: Room, work: &mut [u8]) -> Put
+pub fn put_anchor(contents: &[u8], title: Source, room: Room, work: &mut [u8]) -> Put
     requires { ⌜ Able title room (now contents) (now work) ⌝ }
     ensures { λ r. ⌜ Wrote room (0x23 ∷ slug (sourceText title (now (contents .entry)) (now (work .entry)))) (now (work .entry)) (now (work .exit)) r ⌝ }
 {
@@ -94,4 +69,53 @@ fn put_path(contents: &[u8], path: Source, dir: &[u8], room: Room, work: &mut [u
     }
     path::put_resolved(&contents[a..e], dir, end, work);
     Put::To(end)
+}
+
+// A path that names no member, resolved, at the repository, and its fragment behind it: the target's bytes from a place on.
+pub fn put_outside(
+    contents: &[u8],
+    url: &[u8],
+    resolved: &[u8],
+    target: Source,
+    e: usize,
+    room: Room,
+    work: &mut [u8],
+) -> Put
+    requires { ⌜ Able target room (now contents) (now work) × (e ≤ target .end - target .start) ⌝ }
+    ensures { λ r. ⌜ Wrote room (outside (now (url .entry)) (now (resolved .entry)) ++ drop e (sourceText target (now (contents .entry)) (now (work .entry)))) (now (work .entry)) (now (work .exit)) r ⌝ }
+{
+    let limit = room.limit;
+    let n = target.end - target.start;
+    let Put::To(at) = put_root(url, room, work) else {
+        return Put::Over;
+    };
+    let Put::To(m) = put::put_bytes(resolved, Room { at, limit }, work) else {
+        return Put::Over;
+    };
+    put::put_part(contents, target, e, n, Room { at: m, limit }, work)
+}
+
+// The same for a path that is too long for a name, resolved where it is put.
+pub fn put_far(
+    contents: &[u8],
+    url: &[u8],
+    target: Source,
+    e: usize,
+    dir: &[u8],
+    room: Room,
+    work: &mut [u8],
+) -> Put
+    requires { ⌜ Able target room (now contents) (now work) × (e ≤ target .end - target .start) ⌝ }
+    ensures { λ r. ⌜ Wrote room (outside (now (url .entry)) (resolve (now (dir .entry)) (take e (sourceText target (now (contents .entry)) (now (work .entry))))) ++ drop e (sourceText target (now (contents .entry)) (now (work .entry)))) (now (work .entry)) (now (work .exit)) r ⌝ }
+{
+    let limit = room.limit;
+    let n = target.end - target.start;
+    let Put::To(at) = put_root(url, room, work) else {
+        return Put::Over;
+    };
+    let path = put::part_of(target, 0, e);
+    let Put::To(m) = put_path(contents, path, dir, Room { at, limit }, work) else {
+        return Put::Over;
+    };
+    put::put_part(contents, target, e, n, Room { at: m, limit }, work)
 }

@@ -1,0 +1,3 @@
+pub mod LinkedLaws
+pub mod EmittedLaws
+pub mod EmitLaws

@@ -1,0 +1,5 @@
+pub mod MarksLaws
+pub mod LineLaws
+pub mod EarlierLaws
+pub mod CompareLaws
+pub mod SharedLaws
