@@ -1,12 +1,11 @@
--- Laws of the call fill: its answer and its output by what was filled, and what `fill_regions` asks for once the checks pass. Assumes nothing.
+-- Laws of the call fill: its answer by what was filled, and what `fill_regions` asks for once the checks pass. Assumes nothing.
 use Prim.Native.Nat.{ℕ, zero, suc, _+_, _*_, _≤_, _<_}
 use native.Mathlib.Nat.{add-zero, suc-mul}
 use native.Mathlib.Omega.{arith}
-use mathlib.Core.Path.{_≡_, refl, sym, _∙_, ap}
+use mathlib.Core.Path.{_≡_, refl, _∙_, ap}
 use mathlib.Core.Bool.{Bool, false}
-use mathlib.Core.List.{List, [], _∷_, _++_}
-use lib.ListN.{length, take, drop, replicate}
-use lib.Seq.{sets, sets-eq, length-take-le}
+use mathlib.Core.List.{List, [], _∷_}
+use lib.ListN.{length, take, replicate}
 use Rattle.text.specs.Bytes.{is, count}
 use Rattle.text.specs.Lines.{LF}
 use Rattle.index.specs.Index.{File, fileOf, records, filesFrom, files}
@@ -22,31 +21,17 @@ use Rattle.chains.specs.Fill.{filled}
 use Rattle.filling.specs.declared.Filled.{Filled}
 use Rattle.filling.specs.declared.Filled.the-variants.{Text, NoRegion, Refused}
 use Rattle.answer.specs.declared.Refusal.{Refusal}
-use Rattle.answer.specs.declared.Answer.{Answer}
-use Rattle.answer.specs.declared.Answer.the-variants.{Accepted}
-use Rattle.book.specs.Calls.{answerOf, outputAfter, fillOutcome}
-use Rattle.book.specs.FillCall.{answered, copied, Fits}
+use Rattle.book.specs.Calls.{fillOutcome}
+use Rattle.book.specs.Given.{answered, readAnswer, Fits}
 use Rattle.filling.specs.Filling.{readFilled, Ready, FilledWithin}
 
--- ---- the answer and the output
+-- a fill's own answer, read
+pub filled-read : (r : Filled) (w : List ℕ) → readFilled r w ≡ readAnswer (answered r) w
+filled-read (Text n f) w = refl
+filled-read NoRegion w = refl
+filled-read (Refused x) w = refl
 
-pub answer-read : (r : Filled) (w : List ℕ) (out : ℕ) → Fits r out (length w) → answered r ≡ answerOf (readFilled r w)
-answer-read (Text n f) w out h = ap (λ (k : ℕ). Accepted k f) (sym (length-take-le n w (h .1)))
-answer-read NoRegion w out h = refl
-answer-read (Refused x) w out h = refl
-
-pub output-read : (r : Filled) (w out : List ℕ) → Fits r (length out) (length w) → copied r w out ≡ outputAfter (readFilled r w) out
-output-read (Text n f) w out h = ap (λ (k : ℕ). take n w ++ drop k out) (sym (length-take-le n w (h .1)))
-output-read NoRegion w out h = refl
-output-read (Refused x) w out h = refl
-
--- a text copied to the front of a buffer
-pub copied-front : (n : ℕ) (w out : List ℕ) → n ≤ length w → n ≤ length out → sets out 0 (take n w) ≡ take n w ++ drop n out
-copied-front n w out h k =
-    let e : 0 + length (take n w) ≡ n = omega (arith, length-take-le n w h) in
-    sets-eq (take n w) out 0 (omega arith) ∙ ap (λ (m : ℕ). take n w ++ drop m out) e
-
--- ---- once the checks pass
+-- once the checks pass
 
 free-none : (n k : ℕ) → n ≤ k → free (take n (replicate k false)) ≡ n
 unfolding free
@@ -78,7 +63,7 @@ module _ (index contents name text rows : List ℕ) (limit out work n : ℕ) (p 
   unfolding fillOutcome
   fill-passed B h = rw (p, ← rows-same (q .told) counted) h
 
-  pub fill-held : (r : Filled) → FilledWithin r limit → Fits r out work
+  pub fill-held : (r : Filled) → FilledWithin r limit → Fits (answered r) out work
   fill-held (Text m f) h = (omega (arith, fill-fit index contents name text limit out work p .0), omega (arith, roomy))
   fill-held NoRegion h = tt
   fill-held (Refused x) h = tt

@@ -2,7 +2,8 @@ pub mod BookLaws
 pub mod DemandLaws
 pub mod Demand
 pub mod Checks
-pub mod Example
-pub mod FillExamples
 pub mod ListLaws
+pub mod GivenLaws
 pub mod FillCallLaws
+pub mod FilesLaws
+pub mod AssembleCallLaws

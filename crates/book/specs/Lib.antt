@@ -2,4 +2,5 @@ pub mod Book
 pub mod BookWalk
 pub mod Calls
 pub mod Demand
-pub mod FillCall
+pub mod Given
+pub mod Files

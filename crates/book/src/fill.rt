@@ -2,15 +2,25 @@
 ghost use mathlib.Core.Path.{_≡_};
 ghost use Prim.Native.Nat.{_≤_};
 ghost use lib.ListN.{length};
-ghost use Rattle.filling.specs.Filling.{readFilled};
 ghost use Rattle.book.specs.Calls.{fillOutcome, answerOf, outputAfter, workAfter};
-ghost use Rattle.book.specs.FillCall.{answered, copied, Fits};
+ghost use Rattle.book.specs.Given.{answered, readAnswer, Fits};
+use crate::give;
 use answer::Answer;
 use fileset::check;
 use fileset::check::Checked;
 use fileset::check::Sizes;
 use filling::Filled;
 use filling::Filling;
+
+fn answer_of(got: Filled) -> Answer
+    ensures { λ r. ⌜ r ≡ answered got ⌝ }
+{
+    match got {
+        Filled::Text { length, files } => Answer::Accepted { length, files },
+        Filled::NoRegion => Answer::NoRegion,
+        Filled::Refused(refusal) => Answer::Refused(refusal),
+    }
+}
 
 // Checks the input, and fills the host at the front of the work buffer.
 fn run(
@@ -21,14 +31,14 @@ fn run(
     sizes: Sizes,
     allowance: usize,
     work: &mut [u8],
-) -> Filled
+) -> Answer
     requires { ⌜ sizes .work ≡ length (now work) ⌝ }
-    ensures { λ r. ⌜ readFilled r (now (work .exit)) ≡ fillOutcome (now (index .entry)) (now (contents .entry)) (now (name .entry)) (now (text .entry)) (sizes .limit) allowance (sizes .output) (sizes .work) ⌝ }
+    ensures { λ r. ⌜ readAnswer r (now (work .exit)) ≡ fillOutcome (now (index .entry)) (now (contents .entry)) (now (name .entry)) (now (text .entry)) (sizes .limit) allowance (sizes .output) (sizes .work) ⌝ }
     ensures { λ r. ⌜ Fits r (sizes .output) (sizes .work) ⌝ }
 {
     let mut rows = [0usize; 256];
     match check::check_fill(index, contents, name, text, sizes, &mut rows) {
-        Checked::Refused(refusal) => Filled::Refused(refusal),
+        Checked::Refused(refusal) => Answer::Refused(refusal),
         Checked::Passed => {
             let at = Filling {
                 number: 0,
@@ -37,7 +47,7 @@ fn run(
                 allowance,
                 used: 0,
             };
-            fragment::fill_regions(
+            answer_of(fragment::fill_regions(
                 index,
                 &rows,
                 contents,
@@ -47,32 +57,8 @@ fn run(
                 text,
                 at,
                 work,
-            )
+            ))
         }
-    }
-}
-
-// Copies a text from the front of the work buffer to the front of the output.
-fn copy_out(got: Filled, work: &[u8], out: &mut [u8])
-    requires { ⌜ Fits got (length (now out)) (length (now work)) ⌝ }
-    ensures { λ _. ⌜ now (out .exit) ≡ copied got (now (work .entry)) (now (out .entry)) ⌝ }
-{
-    match got {
-        Filled::Text { length, files: _ } => {
-            buffer::copy(&work[..length], out, 0);
-        }
-        Filled::NoRegion => {}
-        Filled::Refused(_) => {}
-    }
-}
-
-fn answer_of(got: Filled) -> Answer
-    ensures { λ r. ⌜ r ≡ answered got ⌝ }
-{
-    match got {
-        Filled::Text { length, files } => Answer::Accepted { length, files },
-        Filled::NoRegion => Answer::NoRegion,
-        Filled::Refused(refusal) => Answer::Refused(refusal),
     }
 }
 
@@ -97,7 +83,6 @@ pub fn fill(
         work: work.len(),
     };
     let got = run(index, contents, name, text, sizes, allowance, work);
-    copy_out(got, work, out);
-    buffer::clear(work);
-    answer_of(got)
+    give::give(got, out, work);
+    got
 }

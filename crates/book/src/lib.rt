@@ -1,2 +1,5 @@
-// The calls fill, assembly and book. Assembly and book are so far definitions, in specs/, with the proof of demand 3.
+// The calls fill, assembly and book. The book is so far a definition, in specs/, with the proof of demand 3.
+pub mod assemble;
+mod files;
 pub mod fill;
+mod give;

@@ -42,21 +42,30 @@ book-few index contents list url limit out work e =
     let h = index-few index contents (order-first (indexChecked index contents) _ (order-first (headChecked index contents [] url) _ e)) in
     omega (arith, files-length 1 contents (records index))
 
--- the output has room for a text of L bytes, and the work buffer for one a record, a list line and two more
-sizes-fit : (n m limit out work : ℕ) → refuseSizes n m limit out work ≡ Passed → (limit ≤ out) × ((n + m + 2) * limit ≤ work)
+-- the limit is no 0, the output has room for a text of L bytes, and the work buffer for one a record, a list line and two more
+sizes-fit : (n m limit out work : ℕ) → refuseSizes n m limit out work ≡ Passed → (1 ≤ limit) × ((limit ≤ out) × ((n + m + 2) * limit ≤ work))
 sizes-fit n m limit out work e =
-    go (leb 1 limit && leb limit 1048576) (leb limit out) (leb ((n + m + 2) * limit) work) refl refl (refuse-not (not (areSizes n m limit out work)) Sizes e)
+    go (leb 1 limit) (leb limit 1048576) (leb limit out) (leb ((n + m + 2) * limit) work) refl refl refl (refuse-not (not (areSizes n m limit out work)) Sizes e)
   where
-    go : (a b c : Bool) → leb limit out ≡ b → leb ((n + m + 2) * limit) work ≡ c → not (a && (b && c)) ≡ false → (limit ≤ out) × ((n + m + 2) * limit ≤ work)
-    go true true true p q h = (leb-true limit out p, leb-true ((n + m + 2) * limit) work q)
-    go true true false p q h = let z : _≡_ {A = ℕ} 0 1 = cc in absurd (omega arith)
-    go true false c p q h = let z : _≡_ {A = ℕ} 0 1 = cc in absurd (omega arith)
-    go false b c p q h = let z : _≡_ {A = ℕ} 0 1 = cc in absurd (omega arith)
+    go : (l a b c : Bool) → leb 1 limit ≡ l → leb limit out ≡ b → leb ((n + m + 2) * limit) work ≡ c → not ((l && a) && (b && c)) ≡ false
+        → (1 ≤ limit) × ((limit ≤ out) × ((n + m + 2) * limit ≤ work))
+    go true true true true o p q h = (leb-true 1 limit o, (leb-true limit out p, leb-true ((n + m + 2) * limit) work q))
+    go true true true false o p q h = let z : _≡_ {A = ℕ} 0 1 = cc in absurd (omega arith)
+    go true true false c o p q h = let z : _≡_ {A = ℕ} 0 1 = cc in absurd (omega arith)
+    go true false b c o p q h = let z : _≡_ {A = ℕ} 0 1 = cc in absurd (omega arith)
+    go false a b c o p q h = let z : _≡_ {A = ℕ} 0 1 = cc in absurd (omega arith)
 
 pub fill-fit : (index contents name text : List ℕ) (limit out work : ℕ) → fillChecked index contents name text limit out work ≡ Passed
     → (limit ≤ out) × ((length (records index) + 0 + 2) * limit ≤ work)
 unfolding fillChecked
-fill-fit index contents name text limit out work e = sizes-fit (length (records index)) 0 limit out work (order-second (headChecked index contents text name) _ e)
+fill-fit index contents name text limit out work e = sizes-fit (length (records index)) 0 limit out work (order-second (headChecked index contents text name) _ e) .1
+
+pub book-fit : (index contents list url : List ℕ) (limit out work : ℕ) → bookChecked index contents list url limit out work ≡ Passed
+    → (1 ≤ limit) × ((limit ≤ out) × ((length (records index) + length (names list) + 2) * limit ≤ work))
+unfolding bookChecked
+book-fit index contents list url limit out work e =
+    sizes-fit (length (records index)) (length (names list)) limit out work (order-first _ _
+    (order-second (refuseIf (not (isList list)) ListForm) _ (order-second (headChecked index contents [] url) _ e)))
 
 -- every name of the list is a record's
 refuse-none : (n : ℕ) (f : ℕ → Refusal) → refuseAt n f ≡ Passed → n ≡ 0

@@ -1,6 +1,7 @@
 // Stored cases: the headers that a program reads, and the answers that it prints.
 use libc::STDOUT_FILENO;
 
+pub mod case;
 pub mod header;
 pub mod print;
 

@@ -6,24 +6,6 @@ use borrow.Author.Needs.{needs}
 use Rattle.replay_fill.proofs.replay_case.Statement.{statement}
 use Rattle.replay_fill.proofs.replay_case.Tie as tie
 
-ill-formed-requires : tie.Need-ill-formed-requires
-ill-formed-requires c κs = search needs
-
-returns : tie.Need-returns
-returns c = search needs
-
-ill-formed-requires-2 : tie.Need-ill-formed-requires-2
-ill-formed-requires-2 c κs = search needs
-
-returns-2 : tie.Need-returns-2
-returns-2 c = search needs
-
-ill-formed-requires-3 : tie.Need-ill-formed-requires-3
-ill-formed-requires-3 c κs = search needs
-
-returns-3 : tie.Need-returns-3
-returns-3 c = search needs
-
 given-buffer-requires : tie.Need-given-buffer-requires
 given-buffer-requires c κs = search needs
 
@@ -52,21 +34,15 @@ slice-aggregate-replay-given-3 : tie.Need-slice-aggregate-replay-given-3
 slice-aggregate-replay-given-3 c = sym (length-take-le _ _ (omega arith))
 
 replay-given-requires : tie.Need-replay-given-requires
-replay-given-requires c κs = let n = length-take-le (c .before .before .before .before .before .before .before .before .before .args .at .end) (c .before .before .before .before .before .given-buffer .result) (omega arith) in omega arith
+replay-given-requires c κs = let n = length-take-le (c .before .before .before .before .before .before .args .at .end) (c .before .before .before .before .before .given-buffer .result) (omega arith) in omega arith
 
-returns-4 : tie.Need-returns-4
-returns-4 c = search needs
+returns : tie.Need-returns
+returns c = search needs
 
 pub replay-case-spec : {M : Type 1} → statement M
 replay-case-spec =
     tie.close
     (tie.spec
-    ill-formed-requires
-    returns
-    ill-formed-requires-2
-    returns-2
-    ill-formed-requires-3
-    returns-3
     given-buffer-requires
     large-buffer-requires
     large-buffer-requires-2
@@ -77,4 +53,4 @@ replay-case-spec =
     array-borrow-prefix-work
     slice-aggregate-replay-given-3
     replay-given-requires
-    returns-4)
+    returns)

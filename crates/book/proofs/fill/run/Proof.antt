@@ -3,7 +3,7 @@ use native.Mathlib.Omega.{arith}
 use mathlib.Core.Path.{_≡_, sym, _∙_}
 use Rattle.fileset.specs.Check.{fillChecked, Passes}
 use Rattle.fileset.specs.declared.check.Checked.the-variants.{Passed}
-use Rattle.book.proofs.FillCallLaws.{fill-ready, fill-room, fill-passed, fill-held, fill-stopped}
+use Rattle.book.proofs.FillCallLaws.{filled-read, fill-ready, fill-room, fill-passed, fill-held, fill-stopped}
 use borrow.Author.Needs.{needs}
 use Rattle.book.proofs.fill.run.Statement.{statement}
 use Rattle.book.proofs.fill.run.Tie as tie
@@ -35,6 +35,9 @@ fill-regions-requires c κs = let a = c .before .before .before .before .before 
   rw (← c .before .before .before .before .before .before .before .before .before .before .before .before .pre) (fill-room (a .index .now) (a .contents .now) (a .name .now) (a .text .now) r (a .sizes .limit) (a .sizes .output) (a .sizes .work) (c .before .before .record-count .result) (passed k) (told k) (c .before .before .record-count .ensures)),
 )
 
+answer-of-requires : tie.Need-answer-of-requires
+answer-of-requires c κs = search needs
+
 returns : tie.Need-returns
 returns c = let a = c .before .before .before .before .before .before .before .before .before .before .args in
     (fill-stopped (a .index .now) (a .contents .now) (a .name .now) (a .text .now) (a .sizes .limit) (a .allowance) (a .sizes .output) (a .sizes .work) (sym (c .before .refusal .given .1) ∙ c .before .before .before .check-fill .ensures .0), tt)
@@ -43,10 +46,11 @@ same-length : tie.Need-same-length
 same-length c = search needs
 
 returns-2 : tie.Need-returns-2
-returns-2 c = let a = c .before .before .before .before .before .before .before .before .before .before .before .before .before .before .before .args in let k = c .before .before .before .before .before .before in let r = c .before .before .before .before .before .before .before .before .check-fill .last .1 .1 .1 .1 .1 .0 in (
-  fill-passed (a .index .now) (a .contents .now) (a .name .now) (a .text .now) r (a .sizes .limit) (a .sizes .output) (a .sizes .work) (c .before .before .before .before .before .record-count .result) (passed k) (told k) (c .before .before .before .before .before .record-count .ensures) (a .allowance) (c .before .before .fill-regions .ensures .0),
-  fill-held (a .index .now) (a .contents .now) (a .name .now) (a .text .now) r (a .sizes .limit) (a .sizes .output) (a .sizes .work) (c .before .before .before .before .before .record-count .result) (passed k) (told k) (c .before .before .before .before .before .record-count .ensures) (c .before .before .fill-regions .result) (c .before .before .fill-regions .ensures .1),
-)
+returns-2 c = let a = c .before .before .before .before .before .before .before .before .before .before .before .before .before .before .before .before .args in let k = c .before .before .before .before .before .before .before in let r = c .before .before .before .before .before .before .before .before .before .check-fill .last .1 .1 .1 .1 .1 .0 in let n = c .before .before .before .before .before .before .record-count .result in let f = c .before .before .before .fill-regions in
+    let e = c .answer-of .ensures in (
+      rw e (sym (filled-read (f .result) (f .last .1 .1 .1 .1 .1 .1 .1 .1 .0)) ∙ fill-passed (a .index .now) (a .contents .now) (a .name .now) (a .text .now) r (a .sizes .limit) (a .sizes .output) (a .sizes .work) n (passed k) (told k) (c .before .before .before .before .before .before .record-count .ensures) (a .allowance) (f .ensures .0)),
+      rw e (fill-held (a .index .now) (a .contents .now) (a .name .now) (a .text .now) r (a .sizes .limit) (a .sizes .output) (a .sizes .work) n (passed k) (told k) (c .before .before .before .before .before .before .record-count .ensures) (f .result) (f .ensures .1)),
+    )
 
 pub run-spec : {M : Type 1} → statement M
 run-spec =
@@ -57,6 +61,7 @@ run-spec =
     enum-told
     record-count-requires
     fill-regions-requires
+    answer-of-requires
     returns
     same-length
     returns-2)

@@ -3,8 +3,8 @@ use mathlib.Core.Path.{sym}
 use native.Mathlib.Omega.{arith}
 use lib.Seq.{length-take-le}
 use borrow.Author.Needs.{needs}
-use Rattle.replay_fill.proofs.print_answer.Statement.{statement}
-use Rattle.replay_fill.proofs.print_answer.Tie as tie
+use Rattle.stored.proofs.case.print_answer.Statement.{statement}
+use Rattle.stored.proofs.case.print_answer.Tie as tie
 
 numbers-requires : tie.Need-numbers-requires
 numbers-requires c κs = search needs

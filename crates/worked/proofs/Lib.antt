@@ -1,0 +1,3 @@
+pub mod FillExamples
+pub mod AssembleExamples
+pub mod BookExamples
