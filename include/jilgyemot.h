@@ -69,6 +69,44 @@ void jilgyemot_fill(const uint8_t *index, size_t index_length,
                     uint8_t *work, size_t work_length,
                     uint64_t answer[6]);
 
+/*
+ * Assembles the files that a list names into one text, in the list's order. Index,
+ * contents and limit are as for a fill. The list has a name a line, with its LF; 0
+ * to 64 lines, and a name may come twice; an empty list gives one LF. The URL has 1
+ * to 255 bytes of 20 to 7E hex: a link to a file that is not listed is sent there.
+ * The output has at least `limit` bytes, and work at least (index lines + list lines
+ * + 2) times `limit`; it may hold anything, and is zero after every call.
+ *
+ * Accepted: 0, the text's length, 0, 0, 0, 0. The output begins with the text, and
+ * its other bytes are unchanged. Refused, the output unchanged: 2, the number, and
+ * its place: the file's index line, or 0, and the line in it, both counted from 1,
+ * or 0 where there is none; then the second place of 19, at all others 0, 0. "No
+ * region" is no answer of an assembly.
+ *   1  index line ill formed           7   list lacks its last LF, or has over
+ *   2  over 64 index lines                 64 lines
+ *   3  part ends past the contents     8   limit outside its range, or a buffer
+ *   4  name twice                          short
+ *   5  byte 80 hex or above            14  file not in the index
+ *   6  URL not 1 to 255 bytes of       16  heading past level 6
+ *      20 to 7E hex                    17  text longer than the limit
+ *                                      18  no heading of level 1 in a member
+ *                                      19  anchor also in an earlier member of
+ *                                          another name
+ * 1 to 4 stand at the index's line, with file 0; 5 at the byte's line; 6 to 8 at 0,
+ * 0; 14 at the list's line, with file 0. 16 to 19 stand in the member, 17 and 18 at
+ * line 0, and 17 for the last LF in the last member. The lines of 16 and 19 count
+ * the member's lines without its hand-written contents. The second place of 19 is
+ * the earlier member's.
+ */
+void jilgyemot_assemble(const uint8_t *index, size_t index_length,
+                        const uint8_t *contents, size_t contents_length,
+                        const uint8_t *list, size_t list_length,
+                        const uint8_t *url, size_t url_length,
+                        uint64_t limit,
+                        uint8_t *out, size_t out_length,
+                        uint8_t *work, size_t work_length,
+                        uint64_t answer[6]);
+
 #ifdef __cplusplus
 }
 #endif

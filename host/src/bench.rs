@@ -1,7 +1,10 @@
-//! Times the library's scan and fill beside the Rust's, by turns in one run.
+//! Times the library's scan, fill and assembly beside the Rust's, by turns in one run.
 
+mod bench_assembly;
 mod bench_fill;
+mod bench_walk;
 mod library;
+mod library_assembly;
 mod library_fill;
 
 use std::hint::black_box;
@@ -74,4 +77,6 @@ fn main() {
     }
     println!();
     bench_fill::print_table();
+    println!();
+    bench_assembly::print_table();
 }

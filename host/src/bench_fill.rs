@@ -1,16 +1,14 @@
-//! The fill's rows. The clearing of work is measured by itself and left out of
-//! the library's time.
+//! The fill's rows.
 
 use std::hint::black_box;
 
 use doc_gen::fragment::{self, Files};
 use jilgyemot_host::filling::case::Case;
-use jilgyemot_host::filling::limits::{Limits, Needs};
-use jilgyemot_host::filling::oracle::Expected;
+use jilgyemot_host::filling::oracle::expected_within;
 use jilgyemot_host::filling::timed;
 
-use crate::library_fill::{fill, given};
-use crate::{MIB, RUNS, median, time};
+use crate::bench_walk::{Medians, measure, print_head, print_row, text};
+use crate::library_fill::fill;
 
 /// More files than any row takes in.
 const MOST_TAKEN: usize = 10_000;
@@ -25,48 +23,17 @@ impl Files for Texts {
     }
 }
 
-/// The medians of the Rust, of the library and of the clearing alone.
-struct Medians {
-    rust: f64,
-    whole: f64,
-    clearing: f64,
-}
-
-fn measure(case: &Case) -> Medians {
-    let expected = Expected::within(case, MOST_TAKEN).expect("the model agrees with the Rust");
-    let needs = Needs::of(&expected.walk);
-    let limits = Limits::of(needs.longest(), needs.taken(), expected.records);
-    let (mut out, mut work) = (vec![b'.'; limits.out], vec![b'.'; limits.work]);
-    let answer = fill(given(case), limits.limit, limits.allowance, &mut out, &mut work);
-    assert_eq!(Some(answer), expected.answer(&limits));
-    assert!(answer[0] < 2, "a row is filled or has no region");
-    assert!(out.starts_with(expected.written(&answer)), "the text differs from the Rust's");
-
-    let text = |bytes: &[u8]| String::from_utf8(bytes.to_vec()).expect("the rows are ASCII");
-    let files = case.files();
+fn medians(case: &Case) -> Medians {
+    let expected = expected_within(case, MOST_TAKEN).expect("the model agrees with the Rust");
+    let files = case.set.files();
     let texts = Texts(files.iter().map(|(name, bytes)| (text(name), text(bytes))).collect());
     let (name, host) = (text(&case.name), text(&case.text));
-    let repeats = (MIB / case.text.len().max(answer[1] as usize)).max(1);
-    let mut zeros = vec![b'.'; limits.work];
-    let (mut rust, mut whole, mut clearing) = (Vec::new(), Vec::new(), Vec::new());
-    for _ in 0..RUNS {
-        rust.push(time(repeats, || fragment::fill(&name, black_box(&host), &texts)));
-        whole.push(time(repeats, || {
-            fill(black_box(given(case)), limits.limit, limits.allowance, &mut out, &mut work)
-        }));
-        clearing.push(time(repeats, || black_box(&mut zeros).fill(0)));
-    }
-    Medians { rust: median(rust), whole: median(whole), clearing: median(clearing) }
+    measure(case, &expected, fill, || fragment::fill(&name, black_box(&host), &texts))
 }
 
 pub fn print_table() {
-    println!(
-        "{:36} {:>9} {:>9} {:>10} {:>11}",
-        "fill", "Rust ms", "ours ms", "ours/Rust", "clearing ms"
-    );
+    print_head("fill");
     for (name, case) in timed::rows() {
-        let Medians { rust, whole, clearing } = measure(&case);
-        let ours = whole - clearing;
-        println!("{name:36} {rust:9.4} {ours:9.4} {:10.3} {clearing:11.4}", ours / rust);
+        print_row(name, &medians(&case));
     }
 }

@@ -132,13 +132,18 @@ const FILLINGS: [&[u8]; 14] = [
     b"<!--", b"]--", b"a line\r\n",
 ];
 
-/// Markers, fences and line feeds across the ends of blocks, the blocks
-/// counted from the start of the text or of a later line.
+/// Markers, fences and line feeds across the ends of blocks.
 pub fn straddling(random: &mut Random) -> Vec<u8> {
+    straddling_of(&ACROSS, random)
+}
+
+/// Such pieces across the ends of blocks, the blocks counted from the start of the
+/// text or of a later line.
+pub fn straddling_of(pieces: &[&[u8]], random: &mut Random) -> Vec<u8> {
     let mut text = if random.one_in(2) { marked(random) } else { Vec::new() };
     let mut start = random.pick(&[0, text.len()]);
     for _ in 0..random.within(1, 4) {
-        let piece = random.pick(&ACROSS);
+        let piece = random.pick(pieces);
         let end = start + random.pick(&BLOCKS) * random.within(1, 3);
         fill_up(end - random.below(piece.len() + 2).min(end), random, &mut text);
         text.extend_from_slice(piece);

@@ -3,6 +3,7 @@
 
 pub mod anchor;
 pub mod answer;
+pub mod assembling;
 pub mod comparison;
 pub mod exhaustive;
 pub mod filling;
@@ -13,8 +14,10 @@ pub mod linked;
 pub mod notes;
 pub mod oracle;
 pub mod outline;
+pub mod pointers;
 pub mod random;
 pub mod refusals;
 pub mod regions;
 pub mod shrink;
 pub mod spaced;
+pub mod walking;

@@ -1,8 +1,7 @@
 //! The library's C interface, as safe functions.
 
-use std::ptr::{null, null_mut};
-
 use jilgyemot_host::answer::{Answer, answered};
+use jilgyemot_host::pointers::{lent, read};
 
 #[link(name = "jilgyemot", kind = "static")]
 unsafe extern "C" {
@@ -21,8 +20,7 @@ pub fn scan(text: &[u8], out: &mut [u8]) -> Answer {
 
 /// A text or an output that is not there is a null pointer of length 0.
 pub fn scan_or_null(text: Option<&[u8]>, out: Option<&mut [u8]>) -> Answer {
-    let (text, text_len) = text.map_or((null(), 0), |text| (text.as_ptr(), text.len()));
-    let (out, out_len) = out.map_or((null_mut(), 0), |out| (out.as_mut_ptr(), out.len()));
+    let ((text, text_len), (out, out_len)) = (read(text), lent(out));
     // SAFETY: each pointer is valid for the length passed with it, the answer
     // has its six numbers, and the three do not overlap.
     answered(|answer| unsafe { jilgyemot_scan(text, text_len, out, out_len, answer) })

@@ -1,9 +1,8 @@
 //! The library's fill, as a safe function.
 
-use std::ptr::{null, null_mut};
-
 use jilgyemot_host::answer::{Answer, answered};
-use jilgyemot_host::filling::case::Case;
+use jilgyemot_host::pointers::{lent, read};
+use jilgyemot_host::walking::limits::Limits;
 
 #[rustfmt::skip]
 #[link(name = "jilgyemot", kind = "static")]
@@ -20,15 +19,9 @@ unsafe extern "C" {
     );
 }
 
-/// Index, contents, the host's name and text.
-pub type Given<'a> = [&'a [u8]; 4];
-
-pub fn given(case: &Case) -> Given<'_> {
-    [&case.index, &case.contents, &case.name, &case.text]
-}
-
-pub fn fill(given: Given, limit: u64, allowance: u32, out: &mut [u8], work: &mut [u8]) -> Answer {
-    fill_or_null(given.map(Some), limit, allowance, Some(out), Some(work))
+/// `given` is index, contents, the host's name and text.
+pub fn fill(given: [&[u8]; 4], limits: &Limits, out: &mut [u8], work: &mut [u8]) -> Answer {
+    fill_or_null(given.map(Some), limits.limit, limits.allowance, Some(out), Some(work))
 }
 
 /// What is not there is a null pointer of length 0.
@@ -39,10 +32,6 @@ pub fn fill_or_null(
     out: Option<&mut [u8]>,
     work: Option<&mut [u8]>,
 ) -> Answer {
-    let read = |text: Option<&[u8]>| text.map_or((null(), 0), |text| (text.as_ptr(), text.len()));
-    let lent = |buffer: Option<&mut [u8]>| {
-        buffer.map_or((null_mut(), 0), |buffer| (buffer.as_mut_ptr(), buffer.len()))
-    };
     let [(index, index_len), (contents, contents_len), (name, name_len), (text, text_len)] =
         given.map(read);
     let ((out, out_len), (work, work_len)) = (lent(out), lent(work));

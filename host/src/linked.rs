@@ -61,7 +61,7 @@ impl Paths {
 }
 
 /// One path in four may be long, and one part in four is.
-fn random_path(random: &mut Random) -> String {
+pub fn random_path(random: &mut Random) -> String {
     let most = if random.one_in(4) { 80 } else { 8 };
     let mut path = String::new();
     for _ in 0..random.below(most) {

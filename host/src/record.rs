@@ -1,8 +1,11 @@
-//! Writes the stored cases of the program `replay`: what it reads and what it
-//! has to print, all of it from the Rust's answers.
+//! Writes the stored cases of the programs `replay`, `replay_fill` and
+//! `replay_assembly`: what they read and what they have to print, from the Rust's
+//! answers and, at the limits, from the models.
 
 mod json;
+mod record_assembly;
 mod record_fill;
+mod record_walk;
 
 use std::fs;
 use std::path::Path;
@@ -14,7 +17,8 @@ use jilgyemot_host::outline::outline;
 use jilgyemot_host::random::Random;
 use jilgyemot_host::regions::regions;
 
-const USAGE: &str = "usage: record FOLDER --examples FILE, or record FOLDER --fills";
+const USAGE: &str =
+    "usage: record FOLDER --examples FILE, record FOLDER --fills, or record FOLDER --assemblies";
 
 const MOST_TEXT: usize = 16_384;
 const MOST_OUTPUT: usize = 65_536;
@@ -228,6 +232,10 @@ fn main() -> std::io::Result<()> {
         }
         [folder, option] if option == "--fills" => {
             record_fill::add_fills(&mut cases);
+            folder
+        }
+        [folder, option] if option == "--assemblies" => {
+            record_assembly::add_assemblies(&mut cases);
             folder
         }
         _ => {

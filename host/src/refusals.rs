@@ -24,6 +24,9 @@ pub struct Sizes {
     pub work: u64,
 }
 
+/// Sizes that nothing is refused for.
+pub const AMPLE: Sizes = Sizes { limit: 1, out: u64::MAX, work: u64::MAX };
+
 /// A well-formed line of an index.
 pub struct Record<'a> {
     pub name: &'a [u8],

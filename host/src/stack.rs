@@ -4,13 +4,16 @@
 mod notes;
 #[allow(dead_code)]
 mod random;
+mod stack_assembly;
 mod stack_fill;
+mod stack_set;
 
 use std::arch::naked_asm;
 use std::hint::black_box;
 
 use notes::{long_line, marker_in_each_line, notes};
 use random::Random;
+use stack_assembly::assemblies;
 use stack_fill::fills;
 
 // Only the addresses are taken here; `painted_call` passes the arguments.
@@ -18,6 +21,7 @@ use stack_fill::fills;
 unsafe extern "C" {
     fn jilgyemot_scan();
     fn jilgyemot_fill();
+    fn jilgyemot_assemble();
 }
 
 type Address = unsafe extern "C" fn();
@@ -32,9 +36,15 @@ struct Call {
 }
 
 /// A row for each call of the library.
-const CALLS: [Call; 2] = [
+const CALLS: [Call; 3] = [
     Call { name: "jilgyemot_scan", address: jilgyemot_scan, bound: 20_480, inputs: scans },
     Call { name: "jilgyemot_fill", address: jilgyemot_fill, bound: 131_072, inputs: fills },
+    Call {
+        name: "jilgyemot_assemble",
+        address: jilgyemot_assemble,
+        bound: 24_576,
+        inputs: assemblies,
+    },
 ];
 
 /// What a call is given before its answer, and how it has to answer.
@@ -191,11 +201,11 @@ fn measure(call: &Call) -> bool {
     for mut input in (call.inputs)() {
         let (depth, answer) = measured(call.address, &mut input.given);
         assert_eq!(Outcome::of(&answer), input.outcome, "{}, {}", call.name, input.name);
-        println!("{:16} {:40} {depth:>9}", call.name, input.name);
+        println!("{:18} {:40} {depth:>9}", call.name, input.name);
         deepest = deepest.max(depth);
     }
     let Call { name, bound, .. } = call;
-    println!("{name:16} {:40} {deepest:>9}", format!("deepest; bound {bound}"));
+    println!("{name:18} {:40} {deepest:>9}", format!("deepest; bound {bound}"));
     if deepest > *bound {
         println!("{name} takes {deepest} bytes of stack, which is more than its bound {bound}");
     }
@@ -238,7 +248,7 @@ fn check_measure() {
 /// Every call is measured, also behind one that passes its bound.
 fn run() -> bool {
     check_measure();
-    println!("{:16} {:40} {:>9}", "call", "input", "bytes");
+    println!("{:18} {:40} {:>9}", "call", "input", "bytes");
     CALLS.iter().map(measure).fold(true, |all, within| all & within)
 }
 

@@ -3,10 +3,8 @@
 use crate::Outcome::{self, Accepted, NoRegion, Refused};
 use crate::notes::{long_line, notes};
 use crate::random::Random;
-use crate::{Given, Input, KIB, MIB};
-
-/// A record's name, and the text that it stands for.
-type File = (String, Vec<u8>);
+use crate::stack_set::{File, input};
+use crate::{Input, KIB, MIB};
 
 /// Fills of 64 files, each taking in the next one: the text of the last, limit,
 /// allowance and outcome.
@@ -50,16 +48,8 @@ fn fill(
     allowance: u64,
     outcome: Outcome,
 ) -> Input {
-    let (mut index, mut contents) = (Vec::new(), Vec::new());
-    for (name, text) in files {
-        index.extend(format!("{name}\t{}\t{}\n", contents.len(), text.len()).bytes());
-        contents.extend(text);
-    }
-    let mut given: Vec<Given> = [index, contents, b"h".to_vec(), host].map(Given::Bytes).into();
-    given.extend([limit as u64, allowance].map(Given::Number));
-    let work = (files.len() + 2) * limit;
-    given.extend([limit, work].map(|size| Given::Bytes(vec![0xA5; size])));
-    Input { name, given, outcome }
+    let rest = [b"h".to_vec(), host];
+    input(name, files, rest, limit, &[allowance], files.len(), outcome)
 }
 
 fn region(name: &str) -> String {

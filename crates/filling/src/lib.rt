@@ -1,22 +1,18 @@
-// One region of a fill: the host's bytes up to it and the file that it names, and that file embedded once it is filled.
+// One region of a fill: the host's bytes up to it and the file that it names.
 ghost use mathlib.Core.Path.{_≡_};
 ghost use mathlib.Core.List.{List, _++_};
-ghost use Prim.Native.Nat.{ℕ, _+_, _≤_};
-ghost use lib.ListN.{length, take, drop};
+ghost use Prim.Native.Nat.{ℕ, _≤_};
+ghost use lib.ListN.{length, take};
 ghost use Rattle.chains.specs.Chains.{nextNamed};
 ghost use Rattle.answer.specs.Answer.{place};
 ghost use Rattle.text.specs.Bytes.{part};
 ghost use Rattle.index.specs.Rows.{AreNamed};
-ghost use Rattle.embedding.specs.Embed.{embedTold};
 ghost use Rattle.insertion.specs.Insertion.{readInserted, Within, tested};
-ghost use Rattle.filling.specs.Filling.{readFilled, filesIn, FilledWithin, withFiles, namedOf, readOpened, OpenedWithin, entryOf, takenIn, FoundNext, CanOpen, CanGo, Lies, CanTake};
+ghost use Rattle.filling.specs.Filling.{readFilled, filesIn, FilledWithin, withFiles, namedOf, readOpened, OpenedWithin, entryOf, FoundNext, CanOpen, CanGo};
 use answer::Place;
 use answer::Refusal;
 use index::rows;
-use index::rows::Row;
 use insertion::Inserted;
-use insertion::Insertion;
-use put::Source;
 use regions::host;
 use regions::host::HostCursor;
 use regions::host::NextHost;
@@ -154,7 +150,7 @@ fn open_region(
 }
 
 // How long the running text is, with the files taken in, or its refusal.
-fn with_files(put: Inserted, files: usize) -> Filled
+pub fn with_files(put: Inserted, files: usize) -> Filled
     ensures { λ r. ⌜ ((w : List ℕ) → readFilled r w ≡ withFiles files (readInserted put w)) ⌝ }
     ensures { λ r. ⌜ ((limit : ℕ) → Within put limit → FilledWithin r limit) ⌝ }
 {
@@ -219,53 +215,5 @@ pub fn next_file(
             Opened::Refused(refusal) => NextFile::Done(Filled::Refused(refusal)),
         },
         NextHost::NoMore => NextFile::Done(fill_last(s, from, at, len, work)),
-    }
-}
-
-// Embeds what a fill gave behind the running text: its text, which starts at the limit; the file as it stands, where it has no region; or its refusal.
-pub fn take_in(
-    got: Filled,
-    index: &[u8],
-    contents: &[u8],
-    row: Row,
-    host: &[u8],
-    used: usize,
-    at: Insertion,
-    work: &mut [u8],
-) -> Filled
-    requires { ⌜ Lies (length (now index)) (length (now contents)) row × CanTake got (at .target) (at .len) (at .limit) (length (now work)) ⌝ }
-    ensures { λ r. ⌜ readFilled r (now (work .exit)) ≡ takenIn (at .limit) (at .opener) (take (at .len) (now (work .entry)))
-        (embedTold (now (host .entry)) (part (row .name) (row .end) (now (index .entry))) (at .target) (at .number)) (part (row .start) (row .start + row .size) (now (contents .entry))) used
-        (readFilled got (drop (at .limit) (now (work .entry)))) ⌝ }
-    ensures { λ r. ⌜ FilledWithin r (at .limit) ⌝ }
-{
-    let a = row.name;
-    let e = row.end;
-    match got {
-        Filled::Text { length, files } => {
-            let limit = at.limit;
-            let kept = embedding::drop_markers(&mut work[limit..], length);
-            let source = Source {
-                work: true,
-                start: limit,
-                end: limit + kept,
-            };
-            with_files(
-                insertion::insert(contents, source, host, &index[a..e], at, work),
-                files,
-            )
-        }
-        Filled::NoRegion => {
-            let source = Source {
-                work: false,
-                start: row.start,
-                end: row.start + row.size,
-            };
-            with_files(
-                insertion::insert(contents, source, host, &index[a..e], at, work),
-                used,
-            )
-        }
-        Filled::Refused(refusal) => Filled::Refused(refusal),
     }
 }

@@ -19,13 +19,13 @@ use Rattle.regions.specs.declared.host.Opening.{Opening}
 use Rattle.filling.specs.declared.Filling.{Filling}
 use Rattle.filling.specs.declared.Filled.{Filled}
 use Rattle.filling.specs.declared.Filled.the-variants.{Text, NoRegion, Refused}
-use Rattle.fragment.specs.declared.Stand.{Stand}
-use Rattle.fragment.specs.declared.Stand.the-variants.{On, Done}
+use Rattle.taking.specs.declared.Stand.{Stand}
+use Rattle.taking.specs.declared.Stand.the-variants.{On, Done}
 use Rattle.chains.specs.Chains.{Rest, fileAt, next, through, chain}
 use Rattle.walk.specs.Outcome.{Outcome, refusal, outcome}
 use Rattle.chains.specs.Fill.{walk, walkRest, filled}
 use Rattle.filling.specs.Filling.{readFilled, withFiles, namedOf, Entry, enters, barred, entryOf, chainTo, restAt, Running, Turned, IsInto, IsDone, FilledWithin}
-use Rattle.fragment.specs.Stands.{firstOf, afterOf}
+use Rattle.taking.specs.Stands.{firstOf, afterOf}
 use Rattle.regions.proofs.HostLaws.{host-start}
 use Rattle.regions.proofs.SurveyLaws.{survey-regions}
 use Rattle.filling.proofs.TakenLaws.{fill-wrong, fill-none, fill-walk}

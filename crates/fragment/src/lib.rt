@@ -1,19 +1,15 @@
 // Filling in the fragment regions of a file. `fill_regions` and `embed` call each other: the files on the chain are marked, and each level has its text at
 // the front of its buffer, up to the limit, and lends what lies past the limit to the next.
 ghost use mathlib.Core.Path.{_≡_};
-ghost use mathlib.Core.List.{List};
-ghost use Prim.Native.Nat.{ℕ, suc, _*_, _<_, _≤_};
+ghost use Prim.Native.Nat.{suc, _*_, _<_, _≤_};
 ghost use lib.ListN.{length, take};
 ghost use Rattle.answer.specs.Answer.{place};
 ghost use Rattle.index.specs.Index.{fileOf};
-ghost use Rattle.regions.specs.Hosts.{surveyOf};
-ghost use Rattle.regions.specs.Regions.{scanned};
 ghost use Rattle.walk.specs.Steps.{judge};
 ghost use Rattle.embedding.specs.Embed.{embedTold};
 ghost use Rattle.chains.specs.Chains.{fileAt, free, chain};
 ghost use Rattle.chains.specs.Fill.{walk, filled};
 ghost use Rattle.filling.specs.Filling.{readFilled, filesIn, Ready, FilledWithin, embeddedBy, chainTo, CanEmbed};
-ghost use Rattle.fragment.specs.Stands.{firstOf, afterOf};
 use answer::Place;
 use filling::Filled;
 use filling::Filling;
@@ -21,50 +17,7 @@ use filling::NextFile;
 use filling::Spot;
 use index::rows;
 use insertion::Insertion;
-use regions::host;
-use regions::host::HostCursor;
-use regions::survey;
-use regions::survey::Surveyed;
-
-// Where a fill stands: behind a region or at the start, with how long its text is and the files taken in; or it is done.
-enum Stand {
-    On {
-        c: HostCursor,
-        len: usize,
-        used: usize,
-    },
-    Done(Filled),
-}
-
-// Where a fill starts: 9 to 11 and no region come before it.
-fn first(s: &[u8], at: Filling) -> Stand
-    ensures { λ r. ⌜ ((name : List ℕ) → r ≡ firstOf (at .used) (surveyOf (scanned (fileOf (at .number) name (now (s .entry)))))) ⌝ }
-{
-    match survey::survey(s, at.number) {
-        Surveyed::Wrong(refusal) => Stand::Done(Filled::Refused(refusal)),
-        Surveyed::NoRegion => Stand::Done(Filled::NoRegion),
-        Surveyed::Regions => Stand::On {
-            c: host::start(),
-            len: 0,
-            used: at.used,
-        },
-    }
-}
-
-// Where it stands behind a region whose file was taken in.
-fn after(got: Filled, behind: HostCursor) -> Stand
-    ensures { λ r. ⌜ r ≡ afterOf got behind ⌝ }
-{
-    match got {
-        Filled::Text { length, files } => Stand::On {
-            c: behind,
-            len: length,
-            used: files,
-        },
-        Filled::NoRegion => Stand::Done(Filled::NoRegion),
-        Filled::Refused(refusal) => Stand::Done(Filled::Refused(refusal)),
-    }
-}
+use taking::Stand;
 
 // Takes a file in behind the running text: fills it past the limit, with its mark set for as long, and embeds what that gave.
 fn embed(
@@ -122,7 +75,7 @@ fn embed(
         limit,
         len: spot.len,
     };
-    filling::take_in(got, index, contents, row, host, at.used + 1, to, work)
+    taking::take_in(got, index, contents, row, host, at.used + 1, to, work)
 }
 
 // Fills a file. The chain started with the file named top, and the marked files were taken in since.
@@ -142,7 +95,7 @@ pub fn fill_regions(
         (chain (filesIn (now (index .entry)) (now (rows .entry)) (now (contents .entry)) (at .count)) (now (top .entry)) marks (fileOf (at .number) (now (name .entry)) (now (s .entry)))) ⌝ }
     ensures { λ r. ⌜ FilledWithin r (at .limit) ⌝ }
 {
-    let mut stand = first(s, at);
+    let mut stand = taking::first(s, at);
     loop {
         match stand {
             Stand::On { c, len, used } => {
@@ -167,7 +120,7 @@ pub fn fill_regions(
                             spot,
                             work,
                         );
-                        stand = after(got, behind);
+                        stand = taking::after(got, behind);
                     }
                     NextFile::Done(filled) => return filled,
                 }

@@ -1,15 +1,16 @@
 -- Laws of `specs/Contents.antt`: a lowercased text against another, by the byte at a place. Assumes nothing.
 use Prim.Native.Nat.{ℕ, _+_, _<_}
 use native.Mathlib.Omega.{arith}
-use mathlib.Core.Path.{_≡_, sym, _∙_}
-use mathlib.Core.Bool.{false}
+use mathlib.Core.Path.{_≡_, refl, sym, _∙_}
+use mathlib.Core.Bool.{Bool, true, false, _&&_, _||_}
 use mathlib.Core.List.{List, map}
 use lib.ListN.{length, drop, getD, length-map, List·getD-map}
 use borrow.Author.Tests.{eq-eqb, ne-eqb}
-use Rattle.text.specs.Pattern.{startsWith, equals}
+use Rattle.text.specs.Pattern.{bytes, startsWith, equals}
 use Rattle.text.proofs.PatternLaws.{starts-more, starts-differs}
 use Rattle.text.specs.Ascii.{lower}
-use Rattle.heading.specs.Contents.{isLowered}
+use Rattle.heading.specs.Contents.{isLowered, isContents, drops}
+use Rattle.heading.proofs.StillLaws.{no-hash}
 
 lower-at : (s : List ℕ) (j : ℕ) → getD (map lower s) j 0 ≡ lower (getD s j 0)
 unfolding lower
@@ -34,3 +35,19 @@ module _ (p s : List ℕ) where
 
     pub lowered-differs : (lower (getD s j 0) ≡ getD p j 0 → ⊥) → startsWith (drop j p) (drop j (map lower s)) ≡ false
     lowered-differs e = starts-differs p (map lower s) j h long (λ q. e (sym (lower-at s j) ∙ q))
+
+-- whether a line is dropped, by its first byte
+pub drops-other : (within : Bool) (l : List ℕ) → startsWith (bytes "#") l ≡ false → drops within l ≡ within
+unfolding drops isContents
+drops-other true l e = rw (no-hash l e, e)
+drops-other false l e = rw (no-hash l e)
+
+pub drops-hash : (within : Bool) (l : List ℕ) → startsWith (bytes "#") l ≡ true → drops within l ≡ isContents l
+unfolding drops
+drops-hash within l e = rw e (go within (isContents l))
+  where
+    go : (w b : Bool) → (b || (w && false)) ≡ b
+    go true true = refl
+    go true false = refl
+    go false true = refl
+    go false false = refl

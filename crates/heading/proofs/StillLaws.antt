@@ -1,28 +1,29 @@
 -- Lines that leave the heading walk as it is: blank lines, and lines that do not begin with a byte of `isFirst`; and the walk over lines and lines after
 -- them. Assumes nothing.
 use Prim.Native.Nat.{ℕ, zero, suc}
+use native.Mathlib.Omega.{arith}
 use mathlib.Core.Path.{_≡_, refl, ap, _∙_}
 use mathlib.Core.Bool.{Bool, true, false, _&&_}
 use mathlib.Core.List.{List, [], _∷_, _++_}
-use lib.ListN.{replicate}
+use lib.ListN.{length, getD, replicate}
 use lib.Dec.{eqb}
 use Rattle.text.specs.Bytes.{first}
 use Rattle.text.specs.Pattern.{bytes, startsWith}
 use Rattle.text.specs.Space.{isSpace, lead, trimStart, isBlank}
 use Rattle.text.specs.First.{isFirst, begins}
 use Rattle.text.proofs.FirstLaws.{blank-trimmed, blank-find, blank-begins, begins-trimmed, begins-starts}
-use Rattle.fence.specs.Fences.{opener}
+use Rattle.fence.specs.Fences.{opener, opens}
 use Rattle.heading.specs.Walk.{hashes, headingOf, closes, opensComment, writtenKind, commentAfter, outsideKind, outsideAfter, stepKind, stepAfter, kindsFrom, statesAfter, stillKind}
 use Rattle.heading.specs.Level.{shallower, shallowestOf, deeper, deepestOf}
 use Rattle.heading.specs.declared.level.TopLevel.{TopLevel}
 use Rattle.fence.specs.declared.Fence.{Fence}
 use Rattle.fence.specs.declared.Fence.the-variants.{Outside, Ticks, Tildes}
 use Rattle.heading.specs.declared.walk.LineKind.{LineKind}
-use Rattle.heading.specs.declared.walk.LineKind.the-variants.{Other}
+use Rattle.heading.specs.declared.walk.LineKind.the-variants.{Quoted, Other}
 use Rattle.heading.specs.declared.walk.WalkState.{WalkState}
 
 -- a line that begins with no `#` is no heading
-no-hash : (l : List ℕ) → startsWith (0x23 ∷ []) l ≡ false → headingOf l ≡ Other
+pub no-hash : (l : List ℕ) → startsWith (0x23 ∷ []) l ≡ false → headingOf l ≡ Other
 unfolding headingOf hashes first startsWith
 no-hash [] e = refl
 no-hash (x ∷ l) e = rw (and-true (eqb x 0x23) e)
@@ -30,6 +31,17 @@ no-hash (x ∷ l) e = rw (and-true (eqb x 0x23) e)
     and-true : (b : Bool) → (b && true) ≡ false → b ≡ false
     and-true true q = q
     and-true false q = refl
+
+-- whether a line begins with a byte of `isFirst`, by its first byte
+pub begins-none : (l : List ℕ) → length l ≡ 0 → begins l ≡ false
+unfolding begins
+begins-none [] e = refl
+begins-none (x ∷ l) e = absurd (omega arith)
+
+pub begins-some : (l : List ℕ) → (length l ≡ 0 → ⊥) → begins l ≡ isFirst (getD l 0 0)
+unfolding begins
+begins-some [] e = absurd (e refl)
+begins-some (x ∷ l) e = refl
 
 -- no fence, no comment's start and no hash stands at the start of a line
 pub record Bare (l : List ℕ) : Type 0 where
@@ -111,6 +123,22 @@ other-kind f c l e = bare-kind l (other-bare l e) f c
 -- and leaves the state unless a comment is open
 pub other-after : (f : Fence) (c : Bool) (l : List ℕ) → begins l ≡ false → (f ≡ Outside → c ≡ false) → stepAfter f c l ≡ record { fence = f; comment = c }
 other-after f c l e = bare-fence l (other-bare l e) f c
+
+-- what such a line is, by whether a fence is open
+pub still-open : (f : Fence) → opens f ≡ true → stillKind f ≡ Quoted
+still-open Outside e = let z : _≡_ {A = ℕ} 0 1 = cc in absurd (omega arith)
+still-open Ticks e = refl
+still-open Tildes e = refl
+
+pub still-outside : (f : Fence) → opens f ≡ false → stillKind f ≡ Other
+still-outside Outside e = refl
+still-outside Ticks e = let z : _≡_ {A = ℕ} 0 1 = cc in absurd (omega arith)
+still-outside Tildes e = let z : _≡_ {A = ℕ} 0 1 = cc in absurd (omega arith)
+
+pub open-inside : (f : Fence) → opens f ≡ true → f ≡ Outside → ⊥
+open-inside Outside e q = let z : _≡_ {A = ℕ} 0 1 = cc in absurd (omega arith)
+open-inside Ticks e q = let z : _≡_ {A = Bool} true false = ap opens q in let y : _≡_ {A = ℕ} 0 1 = cc in absurd (omega arith)
+open-inside Tildes e q = let z : _≡_ {A = Bool} true false = ap opens q in let y : _≡_ {A = ℕ} 0 1 = cc in absurd (omega arith)
 
 -- the kinds of lines and lines after them
 pub kinds-append : (st : WalkState) (ls us : List (List ℕ)) → kindsFrom st (ls ++ us) ≡ kindsFrom st ls ++ kindsFrom (statesAfter st ls) us

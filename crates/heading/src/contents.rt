@@ -48,11 +48,8 @@ pub fn is_hand_written_toc(line: &[u8]) -> bool
 pub fn drops(within: bool, line: &[u8]) -> bool
     ensures { λ r. ⌜ r ≡ dropsLine within (now (line .entry)) ⌝ }
 {
-    if is_hand_written_toc(line) {
-        return true;
+    if pattern::starts_with(line, b"#") {
+        return is_hand_written_toc(line);
     }
-    if within {
-        return !pattern::starts_with(line, b"#");
-    }
-    false
+    within
 }

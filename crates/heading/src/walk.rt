@@ -3,7 +3,8 @@ ghost use mathlib.Core.Bool.{cond};
 ghost use mathlib.Core.Path.{_≡_};
 ghost use Prim.Native.Nat.{_≤_};
 ghost use lib.ListN.{length};
-ghost use Rattle.heading.specs.Walk.{hashes as hashesOf, headingOf, closes as closesBy, opensComment, writtenKind, commentAfter, stepKind, stepAfter, walkBegin};
+ghost use Rattle.text.specs.First.{begins as beginsWith};
+ghost use Rattle.heading.specs.Walk.{hashes as hashesOf, headingOf, closes as closesBy, opensComment, writtenKind, commentAfter, stepKind, stepAfter, stillKind, walkBegin};
 ghost use Rattle.fence.specs.declared.Fence.the-variants.{Outside};
 use fence::Fence;
 use text::pattern;
@@ -173,8 +174,36 @@ fn inside(fence: Fence, comment: bool, line: &[u8]) -> WalkStep
     quoted(fence, comment)
 }
 
-// What a line is, and the state after it.
-pub fn step(state: WalkState, line: &[u8]) -> WalkStep
+// Whether a line begins with a byte that a heading, a fence or a comment can begin with, a space byte with them.
+fn begins(line: &[u8]) -> bool
+    ensures { λ r. ⌜ r ≡ beginsWith (now (line .entry)) ⌝ }
+{
+    if line.len() == 0 {
+        return false;
+    }
+    let b = line[0];
+    (b == b'#') | (space::is_space(b) | ((b == b'`') | ((b == b'~') | (b == b'<'))))
+}
+
+// A line that leaves the state as it is, and is no heading.
+fn still(state: WalkState) -> WalkStep
+    ensures { λ r. ⌜ r ≡ record { kind = stillKind (state .fence); state = state } ⌝ }
+{
+    let fence = state.fence;
+    if fence::opens(fence) {
+        return WalkStep {
+            kind: LineKind::Quoted,
+            state,
+        };
+    }
+    WalkStep {
+        kind: LineKind::Other,
+        state,
+    }
+}
+
+// What a line is, and the state after it, by all its bytes.
+fn read(state: WalkState, line: &[u8]) -> WalkStep
     ensures { λ r. ⌜ (r .kind ≡ stepKind (state .fence) (state .comment) (now (line .entry))) × (r .state ≡ stepAfter (state .fence) (state .comment) (now (line .entry))) ⌝ }
 {
     let fence = state.fence;
@@ -183,4 +212,21 @@ pub fn step(state: WalkState, line: &[u8]) -> WalkStep
         Fence::Ticks => inside(fence, state.comment, line),
         Fence::Tildes => inside(fence, state.comment, line),
     }
+}
+
+// What a line is, and the state after it. Most lines are told by their first byte; in a comment outside fences any line can end it.
+pub fn step(state: WalkState, line: &[u8]) -> WalkStep
+    ensures { λ r. ⌜ (r .kind ≡ stepKind (state .fence) (state .comment) (now (line .entry))) × (r .state ≡ stepAfter (state .fence) (state .comment) (now (line .entry))) ⌝ }
+{
+    if begins(line) {
+        return read(state, line);
+    }
+    let fence = state.fence;
+    if fence::opens(fence) {
+        return still(state);
+    }
+    if state.comment {
+        return read(state, line);
+    }
+    still(state)
 }

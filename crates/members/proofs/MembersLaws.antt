@@ -6,10 +6,10 @@ use native.Mathlib.Omega.{arith}
 use mathlib.Core.Path.{_≡_, refl, sym, ap, _∙_}
 use mathlib.Core.Bool.{Bool, true, false, cond}
 use mathlib.Core.List.{List, [], _∷_, _++_}
-use mathlib.Core.Option.{none, some}
+use mathlib.Core.Option.{none}
 use lib.Dec.{eqb, ltb}
 use lib.ListN.{length, take, drop, getD, set, List·getD-append}
-use lib.Seq.{sets, getD-set-other, getD-drop, getD-take, length-sets, take-take, drop-drop}
+use lib.Seq.{sets, getD-set-other, getD-drop, length-sets, take-take, drop-drop}
 use borrow.Author.Tests.{ltb-true, ltb-false}
 use mir.Val.{boolByte}
 use Rattle.text.specs.Bytes.{part, bit}
@@ -25,7 +25,6 @@ use Rattle.put.specs.Put.{sourceText, Held, Inside, partOf}
 use Rattle.put.specs.declared.Source.{Source}
 use Rattle.put.proofs.PutLaws.{source-part}
 use Rattle.member.specs.Member.{Prepared, preparedLines, titleOf, titled, prepare}
-use Rattle.member.specs.Lines.{keptLines}
 use Rattle.member.specs.Outline.{IsOutline}
 use Rattle.members.specs.Members.{
   topNumber,

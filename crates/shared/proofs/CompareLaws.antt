@@ -1,32 +1,28 @@
 -- Laws of a member that is compared: the table of marks that is lent and comes back, and the walk of its headings. Assumes nothing.
-use Prim.Native.Nat.{ℕ, suc, _+_, _-_, _≤_, _<_}
+use Prim.Native.Nat.{ℕ, _+_, _-_, _≤_, _<_}
 use native.Mathlib.Nat.{zero-add}
 use native.Mathlib.Omega.{arith}
 use mathlib.Core.Path.{_≡_, refl, sym, ap, _∙_}
-use mathlib.Core.Bool.{Bool, true, false, cond}
-use mathlib.Core.List.{List, [], _∷_, _++_, append-assoc}
-use lib.Dec.{eqb}
+use mathlib.Core.Bool.{Bool, false}
+use mathlib.Core.List.{List, [], _++_, append-assoc}
 use lib.ListN.{length, take, drop, length-append, length-drop}
 use lib.Seq.{take-at, drop-at, length-take-le}
 use borrow.Author.Tests.{eq-eqb, ne-eqb}
 use Rattle.answer.specs.Answer.{place}
 use Rattle.answer.specs.declared.Place.{Place}
-use Rattle.answer.specs.declared.Refusal.{Refusal}
-use Rattle.answer.specs.declared.Refusal.the-variants.{SharedAnchor}
 use Rattle.text.specs.Bytes.{part}
 use Rattle.text.proofs.BytesLaws.{part-full}
 use Rattle.anchor.specs.Anchor.{slug, anchorNumber}
 use Rattle.shift.specs.Shift.{Told}
 use Rattle.put.specs.Put.{sourceText, Inside, partOf}
 use Rattle.put.specs.declared.Source.{Source}
-use Rattle.member.specs.Member.{Prepared}
 use Rattle.member.specs.Lines.{keptLines, leftOf, atFirst, CursorIn, Plain, IsHeading, FoundHeading}
 use Rattle.member.specs.declared.lines.LineCursor.{LineCursor}
 use Rattle.member.specs.declared.lines.NextHeading.{NextHeading}
 use Rattle.members.specs.Members.{memberAt, nameOf, textSource, preparedIn, preparedFrom, AllStand}
 use Rattle.members.proofs.MembersLaws.{prepared-more, prepared-up, source-up, inside-part, inside-more, text-inside}
-use Rattle.shared.specs.Shared.{earlier, sharedAt, sharedIn}
-use Rattle.shared.specs.Marks.{Marked, Marks, TellsLines, Tells, SharedOf}
+use Rattle.shared.specs.Shared.{earlier, sharedIn}
+use Rattle.shared.specs.Marks.{Marks, TellsLines, Tells, SharedOf}
 use Rattle.shared.specs.declared.Shared.the-variants.{At}
 use Rattle.shared.proofs.LineLaws.{first-in, first-left, shared-none, shared-next, tells-plain, tells-append, upTo, left-up, tells-up, part-fits, part-text}
 use Rattle.shared.proofs.EarlierLaws.{lines-still, tells-still, tells-more, earlier-none}

@@ -1,5 +1,5 @@
 -- Laws of `specs/Shared.antt` and `specs/Marks.antt` on the lines of one member: lines that are no headings, and the next heading. Assumes nothing.
-use Prim.Native.Nat.{ℕ, zero, suc, _+_, _≤_, zero-le}
+use Prim.Native.Nat.{ℕ, suc, _+_, _≤_, zero-le}
 use native.Mathlib.Nat.{add-zero}
 use native.Mathlib.Omega.{arith}
 use mathlib.Core.Path.{_≡_, refl, sym, ap, _∙_}
@@ -7,7 +7,6 @@ use mathlib.Core.Bool.{Bool, true, false, cond}
 use mathlib.Core.List.{List, [], _∷_, _++_, append-nil, append-assoc}
 use lib.ListN.{length}
 use Rattle.answer.specs.Answer.{place}
-use Rattle.answer.specs.declared.Refusal.{Refusal}
 use Rattle.text.specs.Bytes.{part}
 use Rattle.text.specs.Pattern.{equals}
 use Rattle.text.proofs.BytesLaws.{part-length}
@@ -17,7 +16,7 @@ use Rattle.heading.specs.declared.walk.LineKind.{LineKind}
 use Rattle.heading.specs.declared.walk.LineKind.the-variants.{Quoted, Heading, Other}
 use Rattle.heading.specs.Walk.{walkBegin}
 use Rattle.shift.specs.Shift.{Told, toldFrom}
-use Rattle.put.specs.Put.{sourceText, Inside, partOf}
+use Rattle.put.specs.Put.{sourceText, partOf}
 use Rattle.put.specs.declared.Source.{Source}
 use Rattle.put.proofs.PutLaws.{source-part}
 use Rattle.member.specs.Member.{Prepared, withoutContents}

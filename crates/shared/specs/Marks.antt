@@ -1,10 +1,9 @@
 -- The table of marks, which spares comparisons, and what the functions find. Nothing here is document 01's: functions promise it.
 use Prim.Native.Nat.{ℕ, _≤_, _/_, _%_}
 use mathlib.Core.Path.{_≡_}
-use mathlib.Core.Bool.{Bool, true, false, cond}
+use mathlib.Core.Bool.{Bool, false}
 use mathlib.Core.Logic.{_⊎_}
 use mathlib.Core.List.{List, [], _∷_}
-use lib.Dec.{eqb}
 use lib.ListN.{length, getD}
 use Rattle.answer.specs.declared.Refusal.{Refusal}
 use Rattle.answer.specs.declared.Refusal.the-variants.{SharedAnchor}
@@ -21,20 +20,34 @@ use Rattle.shared.specs.declared.Shared.the-variants.{Nowhere, At}
 abbrev pub MANY : ℕ
 MANY = 255
 
--- what a place becomes where a file is marked and a mark stood there, or 0
-abbrev pub markOn : ℕ → ℕ → ℕ
-markOn old file = cond (eqb old 0) file (cond (eqb old file) file MANY)
-
 -- a place of the table tells of a file
 abbrev pub Holds : List ℕ → ℕ → ℕ → Type 0
 Holds table p file = (getD table p 0 ≡ MANY) ⊎ (getD table p 0 ≡ file)
 
--- so do both places of a number
-pub record Marked (table : List ℕ) (number file : ℕ) : Type 0 where
-  pub one : Holds table (number % length table) file
-  pub two : Holds table (number / length table % length table) file
+-- the three places of a number in a table of n bytes
+abbrev pub placeOne : ℕ → ℕ → ℕ
+placeOne number n = number % n
 
--- what marking a number leaves: what the table told it tells still; it tells of the file; and where the answer is false it told of no other file there
+abbrev pub placeTwo : ℕ → ℕ → ℕ
+placeTwo number n = number / n % n
+
+abbrev pub placeThree : ℕ → ℕ → ℕ
+placeThree number n = number % 16777213 % n
+
+-- all three tell of a file
+pub record Marked (table : List ℕ) (number file : ℕ) : Type 0 where
+  pub one : Holds table (placeOne number (length table)) file
+  pub two : Holds table (placeTwo number (length table)) file
+  pub three : Holds table (placeThree number (length table)) file
+
+-- what marking a place leaves: what the table told it tells still; the place tells of the file; and where the answer is false it told of no other
+pub record Mark (table after : List ℕ) (at file : ℕ) (other : Bool) : Type 0 where
+  pub long : length after ≡ length table
+  pub still : (p f : ℕ) → 1 ≤ f → Holds table p f → Holds after p f
+  pub own : Holds after at file
+  pub alone : other ≡ false → (f : ℕ) → 1 ≤ f → Holds table at f → f ≡ file
+
+-- the same of a number
 pub record Marks (table after : List ℕ) (number file : ℕ) (maybe : Bool) : Type 0 where
   pub long : length after ≡ length table
   pub still : (n f : ℕ) → 1 ≤ f → Marked table n f → Marked after n f

@@ -75,7 +75,7 @@ count-le f (x ∷ s) = go (f x) (count-le f s)
     go true h = omega arith
     go false h = omega arith
 
--- a block: for the first that passes, one in which none passes
+-- a block: for the first that passes, one in which none passes, or one in which it stands
 first-skip : (f : ℕ → Bool) (n : ℕ) (l : List ℕ) → n ≤ length l → any f (take n l) ≡ false → n + first f (drop n l) ≡ first f l
 unfolding any first
 first-skip f zero l h e = zero-add (first f l)
@@ -83,6 +83,16 @@ first-skip f (suc n) [] h e = absurd (not-suc-le-zero h)
 first-skip f (suc n) (x ∷ l) h e =
     let ih : n + first f (drop n l) ≡ first f l = first-skip f n l (le-of-suc-le-suc h) (or-right (f x) (any f (take n l)) e) in
     rw (or-left (f x) (any f (take n l)) e) (omega arith)
+
+first-in : (f : ℕ → Bool) (n : ℕ) (l : List ℕ) → any f (take n l) ≡ true → first f l < n
+unfolding any first
+first-in f zero l e = absurd (false≢true e)
+first-in f (suc n) [] e = absurd (false≢true e)
+first-in f (suc n) (x ∷ l) e = go (f x) (first-in f n l) e
+  where
+    go : (b : Bool) → (any f (take n l) ≡ true → first f l < n) → (b || any f (take n l)) ≡ true → cond b 0 (suc (first f l)) < suc n
+    go true h q = omega arith
+    go false h q = omega (arith, h q)
 
 count-split : (f : ℕ → Bool) (n : ℕ) (l : List ℕ) → count f (take n l) + count f (drop n l) ≡ count f l
 unfolding count
@@ -111,6 +121,9 @@ after-skip f (x ∷ s) (suc i) n e =
 module _ (f : ℕ → Bool) (s : List ℕ) (i e : ℕ) (h : i ≤ e) where
   pub first-block : e ≤ length s → any f (part i e s) ≡ false → e + first f (drop e s) ≡ i + first f (drop i s)
   first-block k q = omega (arith, first-skip f (e - i) (drop i s) (omega (arith, length-drop i s)) q, ap (first f) (onward s i e h))
+
+  pub first-within : any f (part i e s) ≡ true → i + first f (drop i s) < e
+  first-within q = omega (arith, first-in f (e - i) (drop i s) q)
 
   pub count-block : count f (part i e s) + count f (drop e s) ≡ count f (drop i s)
   count-block = omega (arith, count-split f (e - i) (drop i s), ap (count f) (onward s i e h))

@@ -37,10 +37,6 @@ module _ (p s : List ℕ) (j : ℕ) where
   unfolding startsWith
   starts-differs hp hs e = rw (drop-cons p j 0, drop-cons s j 0, ne-eqb _ _ e)
 
-  pub starts-short : j < length p → length s ≤ j → startsWith (drop j p) (drop j s) ≡ false
-  unfolding startsWith
-  starts-short hp hs = rw (drop-cons p j 0, drop-of-length-le s hs)
-
   pub starts-end : length p ≤ j → startsWith (drop j p) (drop j s) ≡ true
   unfolding startsWith
   starts-end h = rw (drop-of-length-le p h)
@@ -51,6 +47,13 @@ unfolding startsWith
 starts-long [] s e = zero-le
 starts-long (b ∷ p) [] e = absurd (false≢true e)
 starts-long (b ∷ p) (x ∷ s) e = omega (arith, starts-long p s (and-right (eqb x b) (startsWith p s) e))
+
+pub starts-short : (p s : List ℕ) → length s < length p → startsWith p s ≡ false
+starts-short p s h = go (startsWith p s) refl
+  where
+    go : (b : Bool) → startsWith p s ≡ b → b ≡ false
+    go true e = absurd (omega (arith, starts-long p s e))
+    go false e = refl
 
 pub ends-long : (p s : List ℕ) → endsWith p s ≡ true → length p ≤ length s
 unfolding endsWith

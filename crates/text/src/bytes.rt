@@ -1,7 +1,7 @@
 // Searches for a byte and counts of it. A loop over a block has no early exit, so that it becomes vector code; a search goes block
 // by block, then byte by byte in the block that has what is sought.
 ghost use mathlib.Core.Path.{_≡_};
-ghost use Prim.Native.Nat.{_+_, _≤_};
+ghost use Prim.Native.Nat.{_+_, _≤_, _<_};
 ghost use lib.ListN.{length, take, drop};
 ghost use Rattle.text.specs.Bytes.{is, bit as bitOf, any, first, count as countOf, afterLast};
 
@@ -43,6 +43,18 @@ fn find_near(s: &[u8], from: usize, b: u8) -> usize
     i
 }
 
+// The first place of b from a place on, where there is one, byte by byte.
+fn find_here(s: &[u8], from: usize, b: u8) -> usize
+    requires { ⌜ from + first (is b) (drop from (now s)) < length (now s) ⌝ }
+    ensures { λ r. ⌜ (r ≡ from + first (is b) (drop from (now (s .entry)))) × (r ≤ length (now (s .entry))) ⌝ }
+{
+    let mut i = from;
+    while s[i] != b {
+        i += 1;
+    }
+    i
+}
+
 // The first place of b from a place on, or the length.
 pub fn find_byte(s: &[u8], from: usize, b: u8) -> usize
     requires { ⌜ from ≤ length (now s) ⌝ }
@@ -52,7 +64,7 @@ pub fn find_byte(s: &[u8], from: usize, b: u8) -> usize
     while 16 <= s.len() - i {
         let e = i + 16;
         if has(&s[i..e], b) {
-            return find_near(s, i, b);
+            return find_here(s, i, b);
         }
         i = e;
     }

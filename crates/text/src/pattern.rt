@@ -13,11 +13,11 @@ pub enum Found {
 pub fn starts_with(s: &[u8], p: &[u8]) -> bool
     ensures { λ r. ⌜ r ≡ startsWith (now (p .entry)) (now (s .entry)) ⌝ }
 {
+    if s.len() < p.len() {
+        return false;
+    }
     let mut j = 0;
     while j < p.len() {
-        if s.len() <= j {
-            return false;
-        }
         if s[j] != p[j] {
             return false;
         }

@@ -1,91 +1,22 @@
 //! The walk of a fill, written from document 01 ("Fill"), on lists of lines. Nothing
 //! of the Rust is called here.
-//!
-//! The walk is made without limits, as a list of the steps at which L is tested
-//! and B is asked for, so one walk gives the answer for all limits.
 
-use super::case::File;
-use super::reading::{Heading, Region, Scan, anchor_self_links, headings, is_blank, lines};
-use crate::answer::Answer;
+use crate::walking::naming::{anchor_self_links, directory};
+use crate::walking::reading::{
+    Heading, Region, Scan, headings, is_blank, lines, shifted, without_blank_end,
+};
+use crate::walking::set::File;
+use crate::walking::steps::{End, Fault, Place, Step, Walk};
 
-/// The file is its record's number, or 0 for the host; the line is 0 where
-/// there is none.
-#[derive(Clone, Copy, PartialEq, Debug)]
-pub struct Place {
-    pub file: usize,
-    pub line: usize,
-}
-
-#[derive(Clone, Copy)]
-pub enum Step {
-    /// A running text of this length is tested.
-    Sized { length: usize, place: Place },
-    /// A region takes a file in.
-    Taken { place: Place },
-}
-
-#[derive(PartialEq)]
-pub enum End {
-    Text(Vec<u8>),
-    NoRegion,
-    Fault {
-        number: u64,
-        place: Place,
-    },
-    /// The walk takes in more files than it may here.
-    Unfinished,
-}
-
-pub struct Walk {
-    pub steps: Vec<Step>,
-    pub end: End,
-    /// How many files the longest chain has behind the host.
-    pub deepest: usize,
-}
-
-impl Walk {
-    /// The walk of a host through files, as far as it takes in `most` of them.
-    pub fn of(files: &[File], name: &[u8], text: &[u8], most: usize) -> Self {
-        let mut walker = Walker { files, most, taken: 0, deepest: 0, steps: Vec::new() };
-        let end = match walker.fill(0, text, &mut vec![name]) {
-            Ok(Some(text)) => End::Text(text),
-            Ok(None) => End::NoRegion,
-            Err(end) => end,
-        };
-        Walk { steps: walker.steps, end, deepest: walker.deepest }
-    }
-
-    pub fn taken(&self) -> usize {
-        self.steps.iter().filter(|step| matches!(step, Step::Taken { .. })).count()
-    }
-
-    /// The six numbers with these limits, refusal 8 left out; none where the walk
-    /// is unfinished.
-    pub fn answer(&self, limit: u64, allowance: u32) -> Option<Answer> {
-        let mut taken = 0;
-        for step in &self.steps {
-            match *step {
-                Step::Sized { length, place } if length as u64 > limit => {
-                    return Some(refused(17, place));
-                }
-                Step::Sized { .. } => {}
-                Step::Taken { place } if taken == u64::from(allowance) => {
-                    return Some(refused(15, place));
-                }
-                Step::Taken { .. } => taken += 1,
-            }
-        }
-        match &self.end {
-            End::Text(text) => Some([0, text.len() as u64, taken, 0, 0, 0]),
-            End::NoRegion => Some([1, 0, 0, 0, 0, 0]),
-            End::Fault { number, place } => Some(refused(*number, *place)),
-            End::Unfinished => None,
-        }
-    }
-}
-
-fn refused(number: u64, place: Place) -> Answer {
-    [2, number, place.file as u64, place.line as u64, 0, 0]
+/// The walk of a host through files, as far as it takes in `most` of them.
+pub fn walk(files: &[File], name: &[u8], text: &[u8], most: usize) -> Walk {
+    let mut walker = Walker { files, most, taken: 0, deepest: 0, steps: Vec::new() };
+    let end = match walker.fill(0, text, &mut vec![name]) {
+        Ok(Some(text)) => End::Text(text),
+        Ok(None) => End::NoRegion,
+        Err(end) => end,
+    };
+    Walk { steps: walker.steps, end, deepest: walker.deepest }
 }
 
 struct Walker<'a> {
@@ -106,7 +37,7 @@ impl<'a> Walker<'a> {
     ) -> Result<Option<Vec<u8>>, End> {
         let scan = Scan::of(text);
         if let Some((number, line)) = scan.problem {
-            return Err(End::Fault { number, place: Place { file, line } });
+            return Err(End::Fault(Fault::at(number, Place { file, line })));
         }
         if scan.regions.is_empty() {
             return Ok(None);
@@ -144,7 +75,7 @@ impl<'a> Walker<'a> {
         place: Place,
         chain: &[&[u8]],
     ) -> Result<usize, End> {
-        let fault = |number| Err(End::Fault { number, place });
+        let fault = |number| Err(End::Fault(Fault::at(number, place)));
         if region.peer && !headed {
             return fault(12);
         }
@@ -174,20 +105,10 @@ impl<'a> Walker<'a> {
         chain.pop();
         let filled = filled.as_deref().unwrap_or(text);
         let embedded = embedded_lines(filled);
-        let mut lines: Vec<Vec<u8>> = embedded.iter().map(|line| line.to_vec()).collect();
         let headings = headings(&embedded);
-        let shallowest = headings.iter().map(|heading| heading.level).min();
-        let shift = shallowest.map_or(0, |level| target - level);
-        for heading in headings {
-            let level = heading.level + shift;
-            if level > 6 {
-                let place = Place { file, line: heading.line + 1 };
-                return Err(End::Fault { number: 16, place });
-            }
-            lines[heading.line] = [&b"######"[..level as usize], b" ", heading.text].concat();
-        }
-        let dir = &name[..name.iter().rposition(|&byte| byte == b'/').unwrap_or(0)];
-        Ok(lines.iter().map(|line| anchor_self_links(line, dir, host)).collect())
+        let lines = shifted(&embedded, &headings, target)
+            .map_err(|line| End::Fault(Fault::at(16, Place { file, line })))?;
+        Ok(lines.iter().map(|line| anchor_self_links(line, directory(name), host)).collect())
     }
 }
 
@@ -214,8 +135,7 @@ fn embedded_lines(filled: &[u8]) -> Vec<&[u8]> {
         kept[region.close] = None;
     }
     let kept: Vec<&[u8]> = kept.into_iter().flatten().collect();
-    let blank = |line: &&&[u8]| is_blank(line);
-    let end = kept.len() - kept.iter().rev().take_while(blank).count();
-    let start = kept[..end].iter().take_while(blank).count();
-    kept[start..end].to_vec()
+    let kept = without_blank_end(&kept);
+    let start = kept.iter().take_while(|line| is_blank(line)).count();
+    kept[start..].to_vec()
 }

@@ -6,11 +6,11 @@ use std::cell::Cell;
 
 use doc_gen::fragment::{self, Files};
 
-use super::case::{Case, File};
-use super::limits::Limits;
-use super::model::{End, Place, Walk};
-use crate::answer::Answer;
-use crate::refusals::{Sizes, short_sizes};
+use super::case::Case;
+use super::model::walk;
+use crate::walking::expected::{Expected, difference};
+use crate::walking::set::{File, Handed, ascii};
+use crate::walking::steps::{End, Fault, Place};
 
 /// The most files that a walk takes in, if nothing else is said.
 const MOST_TAKEN: usize = 1_000;
@@ -40,10 +40,6 @@ impl Files for Reader<'_> {
     }
 }
 
-fn ascii(text: &[u8]) -> &str {
-    str::from_utf8(text).expect("wide bytes are refused before the walk")
-}
-
 /// What the Rust gives, and how many files it read, which are not to be over `most`.
 fn rust(files: &[File], name: &[u8], text: &[u8], most: usize) -> (End, usize) {
     let reader = Reader { files, reads: Cell::new(0), most };
@@ -67,7 +63,7 @@ fn taken_apart(message: &str, host: &str, files: &[File]) -> End {
     };
     match std::iter::once((0, host)).chain(named).find_map(read) {
         Some((0, _)) => End::Unfinished,
-        Some((number, place)) => End::Fault { number, place },
+        Some((number, place)) => End::Fault(Fault::at(number, place)),
         None => panic!("no number is known for {message:?}"),
     }
 }
@@ -89,61 +85,22 @@ fn number(wrong: &str) -> Option<u64> {
     }
 }
 
-/// What a case has to answer at any limits.
-pub struct Expected {
-    /// One of 1 to 6.
-    pub refused: Option<Answer>,
-    pub walk: Walk,
-    pub records: usize,
+/// What a case has to answer at any limits. Says where the model and the Rust differ.
+pub fn expected(case: &Case) -> Result<Expected, String> {
+    expected_within(case, MOST_TAKEN)
 }
 
-impl Expected {
-    /// Says where the model and the Rust differ.
-    pub fn of(case: &Case) -> Result<Self, String> {
-        Expected::within(case, MOST_TAKEN)
+/// The same for walks that take in `most` files.
+pub fn expected_within(case: &Case, most: usize) -> Result<Expected, String> {
+    if let Some(answer) = case.refusal() {
+        return Ok(Expected::refused(answer));
     }
-
-    /// The same for walks that take in `most` files.
-    pub fn within(case: &Case, most: usize) -> Result<Self, String> {
-        let refused = case.refusal();
-        if refused.is_some() {
-            let walk = Walk { steps: Vec::new(), end: End::NoRegion, deepest: 0 };
-            return Ok(Expected { refused, walk, records: 0 });
-        }
-        let files = case.files();
-        let walk = Walk::of(&files, &case.name, &case.text, most);
-        let (end, reads) = rust(&files, &case.name, &case.text, most);
-        let accepted = matches!(end, End::Text(_));
-        if walk.end != end || (accepted && walk.taken() != reads) {
-            let model = shown(&walk.end, walk.taken());
-            return Err(format!("model {model}\nRust  {}", shown(&end, reads)));
-        }
-        Ok(Expected { refused: None, walk, records: files.len() })
+    let files = case.set.files();
+    let walk = walk(&files, &case.name, &case.text, most);
+    let (end, reads) = rust(&files, &case.name, &case.text, most);
+    let accepted = matches!(end, End::Text(_));
+    if walk.end != end || (accepted && walk.taken() != reads) {
+        return Err(difference(&walk, &end, reads));
     }
-
-    /// The six numbers; none where the walk is unfinished.
-    pub fn answer(&self, limits: &Limits) -> Option<Answer> {
-        let &Limits { limit, allowance, out, work } = limits;
-        let sizes = Sizes { limit, out: out as u64, work: work as u64 };
-        let refused = self.refused.or_else(|| short_sizes(sizes, self.records));
-        refused.or_else(|| self.walk.answer(limit, allowance))
-    }
-
-    /// What the output begins with after a call with this answer.
-    pub fn written(&self, answer: &Answer) -> &[u8] {
-        match &self.walk.end {
-            End::Text(text) if answer[0] == 0 => text,
-            _ => &[],
-        }
-    }
-}
-
-fn shown(end: &End, taken: usize) -> String {
-    let end = match end {
-        End::Text(text) => format!("text {}", text.escape_ascii()),
-        End::NoRegion => "no region".to_string(),
-        End::Fault { number, place } => format!("refusal {number}, {place:?}"),
-        End::Unfinished => "unfinished".to_string(),
-    };
-    format!("{end}, {taken} files taken in")
+    Ok(Expected { refused: None, walk, texts: files.len() })
 }

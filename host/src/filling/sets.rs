@@ -4,9 +4,11 @@ use super::case::Case;
 use super::texts::{Manner, Writer};
 use crate::exhaustive::Exhaustive;
 use crate::generate::{damage, straddling};
-use crate::indexed::{bad_line, damage as damage_index, host_name};
+use crate::indexed::host_name;
 use crate::notes::notes;
 use crate::random::Random;
+use crate::walking::links::name;
+use crate::walking::set::{FileSet, OwnFile};
 
 /// Whole lines: every way through a host, and through a file.
 const LINES: [&str; 12] = [
@@ -94,19 +96,6 @@ fn names(count: usize, random: &mut Random) -> Vec<String> {
     names
 }
 
-fn name(at: usize, random: &mut Random) -> String {
-    match random.below(16) {
-        0..=3 => format!("docs/{at}.md"),
-        4..=5 => format!("docs/b/{at}.md"),
-        6 if at < 26 => char::from(b'a' + at as u8).to_string(),
-        7 if random.one_in(8) => format!("{at:x>255}"),
-        8 => format!(" {at} "),
-        9 if random.one_in(8) => format!("{at}:peer"),
-        10 => random.pick(&["/", "docs//", "../", "./"]).to_string() + &at.to_string(),
-        _ => format!("{at}.md"),
-    }
-}
-
 /// What the texts of a case hold, with a fault or two in every second case.
 fn manner(random: &mut Random) -> Manner {
     Manner {
@@ -139,8 +128,11 @@ fn built(names: &[String], targets: &Targets, manner: Manner, random: &mut Rando
         }
         texts.push(Writer { manner, file, names, random }.text(&named));
     }
-    let host = texts.pop().unwrap_or_default();
-    laid_out(names, texts, &host, random)
+    let text = texts.pop().unwrap_or_default();
+    let (name, names) = names.split_last().expect("the host has a name");
+    let named = names.iter().map(|name| name.clone().into_bytes());
+    let files: Vec<OwnFile> = named.zip(texts).collect();
+    Case { set: FileSet::laid_out(&files, random), name: name.clone().into_bytes(), text }
 }
 
 /// A name near another one.
@@ -153,34 +145,6 @@ fn strange(name: &str, random: &mut Random) -> String {
         4 if name.len() > 1 => name[1..].to_string(),
         _ => "zz".to_string(),
     }
-}
-
-/// Mostly one file behind the other; else with bytes of no file between them, in
-/// another order, and now and then with a part that lies in others.
-fn laid_out(names: &[String], texts: Vec<Vec<u8>>, host: &[u8], random: &mut Random) -> Case {
-    let (name, names) = names.split_last().expect("the host has a name");
-    if !random.one_in(4) {
-        let named = names.iter().map(|name| name.clone().into_bytes());
-        return Case::of(&named.zip(texts).collect::<Vec<_>>(), name.as_bytes(), host);
-    }
-    let mut case = Case { name: name.clone().into(), text: host.to_vec(), ..Case::default() };
-    let mut parts = vec![(0, 0); texts.len()];
-    let first = random.below(texts.len().max(1));
-    for at in (0..texts.len()).map(|at| (at + first) % texts.len()) {
-        case.contents.extend(random.pick(&[&b""[..], b"\xff", b"\n", b"<!--[", b"# \x80"]));
-        parts[at] = (case.contents.len(), texts[at].len());
-        case.contents.extend(&texts[at]);
-    }
-    if random.one_in(8) && !parts.is_empty() {
-        let other = parts[random.below(parts.len())];
-        let cut = random.below(other.1 + 1);
-        let at = random.below(parts.len());
-        parts[at] = (other.0 + cut, random.below(other.1 - cut + 1));
-    }
-    for (name, (start, length)) in names.iter().zip(parts) {
-        case.add_record(name.as_bytes(), start, length);
-    }
-    case
 }
 
 /// Files that take in later ones, so that diamonds are among them. No file leads
@@ -266,8 +230,7 @@ fn doubling(random: &mut Random) -> Case {
 /// A case of another kind, its bytes damaged in a few places.
 fn damaged(random: &mut Random) -> Case {
     let mut case = if random.one_in(3) { chain(random) } else { web(random) };
-    let mut files: Vec<(Vec<u8>, Vec<u8>)> =
-        case.files().iter().map(|(name, text)| (name.to_vec(), text.to_vec())).collect();
+    let mut files = case.set.own_files();
     for _ in 0..random.within(1, 3) {
         let at = random.below(files.len() + 1);
         let text = files.get_mut(at).map_or(&mut case.text, |(_, text)| text);
@@ -284,24 +247,11 @@ fn ill_formed(random: &mut Random) -> Case {
     let mut case = web(random);
     for _ in 0..random.within(1, 2) {
         match random.below(8) {
-            0 if !case.index.is_empty() => damage_index(&mut case.index, random),
-            1 => {
-                case.index.extend(bad_line(b"bad".to_vec(), random));
-                case.index.push(b'\n');
-            }
-            2 => {
-                let more = random.within(63, 66);
-                (0..more).for_each(|at| case.add_record(format!("{at}+").as_bytes(), 0, 0));
-            }
-            3 => case.add_record(b"past", case.contents.len(), 1),
-            4 => case.index.extend(case.index.clone()),
-            5 => {
-                let wide = random.pick(&[&b"\n\x80"[..], b"\xff"]);
-                case.add_record(b"wide", case.contents.len(), wide.len());
-                case.contents.extend(wide);
-            }
             6 => case.text.insert(random.below(case.text.len() + 1), 0x80),
-            _ => case.name = host_name(true, random),
+            kind if kind == 7 || kind == 0 && case.set.index.is_empty() => {
+                case.name = host_name(true, random);
+            }
+            kind => case.set.spoil(kind, random),
         }
     }
     case

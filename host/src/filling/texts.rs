@@ -1,7 +1,8 @@
 //! Texts of hosts and files: own lines, and regions that name files.
 
-use super::links::link;
 use crate::random::Random;
+use crate::walking::lines::{BLANK, BLOCKS, PLAIN, TITLES, TORN, blank_lines, joined};
+use crate::walking::links::link;
 
 /// What the texts of a case may hold.
 #[derive(Clone, Copy, Default)]
@@ -21,40 +22,6 @@ pub struct Manner {
     /// No more than the markers.
     pub bare: bool,
 }
-
-const PLAIN: [&str; 14] = [
-    "text", "a line of words", "x", "#include", "####### seven", "#", " # none", "`code`", "-",
-    "<!-- a --> b", "<!--[k]-->v<!--[/]-->", "a\rb", "#\tnone", "\\# x",
-];
-
-const BLANK: [&str; 8] = ["", "", "", " ", "\t", "\x0b \x0c", "\r", "  \t "];
-
-/// Behind a heading's hashes and space.
-const TITLES: [&str; 10] =
-    ["A", "B ", " C\t", "", " ", "D #", "[w](host.md#k)", "\tE\x0b", "<!-- F -->", "```"];
-
-/// What nothing closes, and what closes nothing. The first two open a fence for
-/// headings and none for the scan.
-const TORN: [&str; 16] = [
-    "```\n~~~", "~~~\n```", "```", "~~~", " ```x", "\t~~~", "````", "<!-- open", " <!--", "<!-->",
-    "-->", "close -->", "<!--[/]-->", " <!--[/]-->\t", "<!--[k", "~~",
-];
-
-/// Lines that are quoted, skipped or no markers, as they come together.
-const BLOCKS: [&[&str]; 12] = [
-    &["```", "# quoted", "```"],
-    &["~~~", "```", "# quoted", "~~~"],
-    &["```", "~~~", "# quoted", "```"],
-    &["<!--", "# skipped", "-->"],
-    &["<!-- a", "-->", "# F"],
-    &["<!--", "# skipped -->", "text"],
-    &["<!--", "~~~", "-->", "~~~", "# skipped", "-->"],
-    &["```", "<!--[/]-->", "```"],
-    &["~~~", "<!--[fragment:a]-->", "~~~"],
-    &["  ```c", "#define", "\t```"],
-    &["```", "[w](/host.md#k)", "[w](/docs/host.md#k)", "```"],
-    &["[w](/host.md#k", "l) [w](/h#k)"],
-];
 
 /// What is no opener and no closer, or too many.
 const DAMAGED: [&str; 10] = [
@@ -97,36 +64,12 @@ impl Writer<'_> {
             self.own_lines(&mut lines);
         }
         self.blank_lines(&mut lines);
-        self.joined(lines)
-    }
-
-    /// The lines with one kind of ends, or mixed ones; the last may lack its own.
-    fn joined(&mut self, lines: Vec<String>) -> Vec<u8> {
-        let kind = self.random.pick(&["\n", "\n", "\n", "\n", "\n", "\n", "\r\n", ""]);
-        let mut text = String::new();
-        for (at, line) in lines.iter().enumerate() {
-            text.push_str(line);
-            if at + 1 < lines.len() || self.random.one_in(2) {
-                let mixed = kind.is_empty();
-                text.push_str(if mixed {
-                    self.random.pick(&["\n", "\r\n", "\r\r\n"])
-                } else {
-                    kind
-                });
-            }
-        }
-        text.into_bytes()
+        joined(&lines, self.random)
     }
 
     fn blank_lines(&mut self, lines: &mut Vec<String>) {
-        if !self.manner.bare && self.random.one_in(4) {
-            for _ in 0..self.random.within(1, 3) {
-                lines.push(self.random.pick(&BLANK).to_string());
-            }
-            // Alone longer than many texts that the file goes into.
-            if self.random.one_in(6) {
-                lines.push(" ".repeat(self.random.within(100, 400)));
-            }
+        if !self.manner.bare {
+            blank_lines(lines, self.random);
         }
     }
 

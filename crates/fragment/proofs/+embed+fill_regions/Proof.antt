@@ -25,10 +25,10 @@ use Rattle.fragment.proofs.+embed+fill_regions.Lts-embed as embed-lts
 use Rattle.fragment.proofs.fill_regions.Reads as fill-regions
 use Rattle.fragment.proofs.fill_regions.Kinds as fill-regions-kinds
 use Rattle.fragment.proofs.+embed+fill_regions.Lts-fill_regions as fill-regions-lts
-use Rattle.fragment.proofs.after.Reads as after-reads
-use Rattle.fragment.proofs.first.Reads as first-reads
+use Rattle.taking.proofs.after.Reads as after-reads
+use Rattle.taking.proofs.first.Reads as first-reads
 use Rattle.filling.proofs.next_file.Reads as next-file-reads
-use Rattle.filling.proofs.take_in.Reads as take-in-reads
+use Rattle.taking.proofs.take_in.Reads as take-in-reads
 use Rattle.index.proofs.rows.row_at.Reads as row-at-reads
 use Rattle.fragment.proofs.+embed+fill_regions.{statement}
 use Rattle.fragment.proofs.+embed+fill_regions.Tie.{close}

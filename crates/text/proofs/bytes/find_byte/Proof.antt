@@ -1,12 +1,11 @@
--- `bytes::find_byte` meets its contract. The invariant: b stands at no place passed. Where a block has b, nothing is to be shown.
--- Assumes nothing.
+-- `bytes::find_byte` meets its contract. The invariant: b stands at no place passed. Assumes nothing.
 use Prim.Native.Nat.{_+_, _-_, _≤_}
 use mathlib.Core.Path.{_≡_, refl, sym, _∙_}
 use lib.ListN.{length, drop}
 use native.Mathlib.Omega.{arith}
 use borrow.Author.Needs.{needs}
 use Rattle.text.specs.Bytes.{is, first}
-use Rattle.text.proofs.BytesLaws.{first-block}
+use Rattle.text.proofs.BytesLaws.{first-block, first-within}
 use Rattle.text.proofs.bytes.find_byte.Statement.{statement}
 use Rattle.text.proofs.bytes.find_byte.Tie as tie
 
@@ -37,11 +36,14 @@ part-has-end c = omega arith
 has-requires : tie.Need-has-requires Inv-loop μ-loop
 has-requires c κs = search needs
 
-find-near-requires : tie.Need-find-near-requires Inv-loop μ-loop
-find-near-requires c κs = omega arith
+find-here-requires : tie.Need-find-here-requires Inv-loop μ-loop
+find-here-requires c κs =
+    let l = c .before .before .before .before .loop in
+    let s = c .before .before .before .before .before .before .args in
+    omega (arith, first-within (is (s .b)) (s .s .now) (l .i) (l .i + 16) (omega arith) (sym (c .before .has .ensures) ∙ c .if1 .taken))
 
 returns : tie.Need-returns Inv-loop μ-loop
-returns c = (c .find-near .ensures .0 ∙ c .before .before .before .before .before .loop .inv .1, c .find-near .ensures .1)
+returns c = (c .find-here .ensures .0 ∙ c .before .before .before .before .before .loop .inv .1, c .find-here .ensures .1)
 
 loop-less : tie.Need-loop-less Inv-loop μ-loop
 loop-less c = omega arith
@@ -52,11 +54,11 @@ loop-again c =
     let s = c .before .before .before .before .before .before .args in
     (omega arith, first-block (is (s .b)) (s .s .now) (l .i) (l .i + 16) (omega arith) (omega arith) (sym (c .before .has .ensures) ∙ c .if1 .left) ∙ l .inv .1)
 
-find-near-requires-2 : tie.Need-find-near-requires-2 Inv-loop μ-loop
-find-near-requires-2 c κs = omega arith
+find-near-requires : tie.Need-find-near-requires Inv-loop μ-loop
+find-near-requires c κs = omega arith
 
 returns-2 : tie.Need-returns-2 Inv-loop μ-loop
-returns-2 c = (c .find-near2 .ensures .0 ∙ c .before .before .loop .inv .1, c .find-near2 .ensures .1)
+returns-2 c = (c .find-near .ensures .0 ∙ c .before .before .loop .inv .1, c .find-near .ensures .1)
 
 pub find-byte-spec : {M : Type 1} → statement M
 find-byte-spec =
@@ -71,9 +73,9 @@ find-byte-spec =
     part-has-start
     part-has-end
     has-requires
-    find-near-requires
+    find-here-requires
     returns
     loop-less
     loop-again
-    find-near-requires-2
+    find-near-requires
     returns-2)

@@ -1,11 +1,10 @@
 -- `first` meets its contract. Assumes nothing.
 use mathlib.Core.Path.{sym, _∙_, ap}
-use Rattle.filling.specs.Filling.{}
-use Rattle.fragment.specs.Stands.{firstOf}
-use Rattle.fragment.specs.declared.Stand.the-variants.{On}
+use Rattle.taking.specs.Stands.{firstOf}
+use Rattle.taking.specs.declared.Stand.the-variants.{On}
 use borrow.Author.Needs.{needs}
-use Rattle.fragment.proofs.first.Statement.{statement}
-use Rattle.fragment.proofs.first.Tie as tie
+use Rattle.taking.proofs.first.Statement.{statement}
+use Rattle.taking.proofs.first.Tie as tie
 
 survey-requires : tie.Need-survey-requires
 survey-requires c κs = search needs

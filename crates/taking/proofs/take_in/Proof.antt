@@ -3,13 +3,13 @@ use native.Mathlib.Omega.{arith}
 use mathlib.Core.Path.{refl, _∙_, ap}
 use Rattle.text.specs.Bytes.{part}
 use Rattle.embedding.specs.Embed.{embedTold}
 use Rattle.filling.specs.Filling.{FilledWithin, withFiles}
 use Rattle.filling.specs.declared.Filled.the-variants.{Text}
 use Rattle.filling.proofs.RoomLaws.{lent-length, back-length}
 use Rattle.filling.proofs.TakenLaws.{taken-text}
 use borrow.Author.Needs.{needs}
-use Rattle.filling.proofs.take_in.Statement.{statement}
-use Rattle.filling.proofs.take_in.Tie as tie
+use Rattle.taking.proofs.take_in.Statement.{statement}
+use Rattle.taking.proofs.take_in.Tie as tie
 
 enum-known-got : tie.Need-enum-known-got
 enum-known-got c = search needs

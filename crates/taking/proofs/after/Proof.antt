@@ -1,7 +1,7 @@
 -- `after` meets its contract. Assumes nothing.
 use borrow.Author.Needs.{needs}
-use Rattle.fragment.proofs.after.Statement.{statement}
-use Rattle.fragment.proofs.after.Tie as tie
+use Rattle.taking.proofs.after.Statement.{statement}
+use Rattle.taking.proofs.after.Tie as tie
 
 enum-known-got : tie.Need-enum-known-got
 enum-known-got c = search needs

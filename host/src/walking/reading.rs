@@ -1,6 +1,5 @@
-//! Regions, headings and links of a text, written from document 01 ("Marker scan",
-//! "Headings and levels"); links as `anchor_self_links`, which it names. Nothing of
-//! the Rust is called here.
+//! Regions and headings of a text, written from document 01 ("Marker scan", "Headings
+//! and levels", "Assembly and book"). Nothing of the Rust is called here.
 
 /// What stands between LFs. The scan leaves out a CR at a line's end and an empty
 /// last line, which changes nothing here, as it trims what it compares.
@@ -20,16 +19,16 @@ fn trimmed_start(line: &[u8]) -> &[u8] {
     &line[line.iter().take_while(|&&byte| is_space(byte)).count()..]
 }
 
-fn trimmed(line: &[u8]) -> &[u8] {
+pub fn trimmed(line: &[u8]) -> &[u8] {
     let line = trimmed_start(line);
     &line[..line.len() - line.iter().rev().take_while(|&&byte| is_space(byte)).count()]
 }
 
-fn find(part: &[u8], line: &[u8]) -> Option<usize> {
+pub fn find(part: &[u8], line: &[u8]) -> Option<usize> {
     line.windows(part.len()).position(|window| window == part)
 }
 
-fn holds(part: &[u8], line: &[u8]) -> bool {
+pub fn holds(part: &[u8], line: &[u8]) -> bool {
     find(part, line).is_some()
 }
 
@@ -97,6 +96,7 @@ fn opening(line: &[u8]) -> Option<(&[u8], bool)> {
 }
 
 /// Its line counts from 0.
+#[derive(Clone, Copy)]
 pub struct Heading<'a> {
     pub line: usize,
     pub level: i32,
@@ -104,15 +104,23 @@ pub struct Heading<'a> {
 }
 
 pub fn headings<'a>(lines: &[&'a [u8]]) -> Vec<Heading<'a>> {
+    headings_and_quoted(lines).0
+}
+
+/// The headings, and for each line whether it is quoted.
+pub fn headings_and_quoted<'a>(lines: &[&'a [u8]]) -> (Vec<Heading<'a>>, Vec<bool>) {
     let mut found = Vec::new();
+    let mut quoted = vec![false; lines.len()];
     let mut quoting: Option<&[u8]> = None;
     let mut in_comment = false;
     for (at, line) in lines.iter().enumerate() {
         if let Some(marks) = quoting {
+            quoted[at] = true;
             if fence(line) == Some(marks) {
                 quoting = None;
             }
         } else if let Some(marks) = fence(line) {
+            quoted[at] = true;
             quoting = Some(marks);
         } else if in_comment {
             in_comment = !holds(b"-->", line);
@@ -120,54 +128,56 @@ pub fn headings<'a>(lines: &[&'a [u8]]) -> Vec<Heading<'a>> {
             && !holds(b"-->", rest)
         {
             in_comment = true;
-        } else {
-            let level = line.iter().take_while(|&&byte| byte == b'#').count();
-            if (1..=6).contains(&level) && line.get(level) == Some(&b' ') {
-                found.push(Heading {
-                    line: at,
-                    level: level as i32,
-                    text: trimmed(&line[level..]),
-                });
-            }
+        } else if let Some((level, text)) = heading(line) {
+            found.push(Heading { line: at, level, text });
         }
     }
-    found
+    (found, quoted)
 }
 
-/// The line with its links that name the host and a fragment made bare.
-pub fn anchor_self_links(line: &[u8], dir: &[u8], host: &[u8]) -> Vec<u8> {
-    let mut made = Vec::new();
-    let mut rest = line;
-    while let Some(at) = find(b"](", rest) {
-        let Some(length) = find(b")", &rest[at + 2..]) else { break };
-        let (target, behind) = rest[at + 2..].split_at(length);
-        made.extend(&rest[..at + 2]);
-        made.extend(anchor_self(target, dir, host));
-        rest = behind;
-    }
-    made.extend(rest);
-    made
+/// Level and text of a heading line, wherever it stands.
+fn heading(line: &[u8]) -> Option<(i32, &[u8])> {
+    let level = line.iter().take_while(|&&byte| byte == b'#').count();
+    let headed = (1..=6).contains(&level) && line.get(level) == Some(&b' ');
+    headed.then(|| (level as i32, trimmed(&line[level..])))
 }
 
-fn anchor_self<'a>(target: &'a [u8], dir: &[u8], host: &[u8]) -> &'a [u8] {
-    if target.starts_with(b"mailto:") || holds(b"://", target) {
-        return target;
-    }
-    match target.iter().position(|&byte| byte == b'#') {
-        Some(hash) if hash > 0 && resolve(&target[..hash], dir) == host => &target[hash..],
-        _ => target,
-    }
-}
-
-fn resolve(path: &[u8], dir: &[u8]) -> Vec<u8> {
-    let (root, rest) = path.strip_prefix(b"/").map_or((dir, path), |rest| (&b""[..], rest));
-    let mut parts: Vec<&[u8]> = Vec::new();
-    for part in root.split(|&byte| byte == b'/').chain(rest.split(|&byte| byte == b'/')) {
-        match part {
-            b"" | b"." => {}
-            b".." => drop(parts.pop()),
-            _ => parts.push(part),
+/// The lines without hand-written contents.
+pub fn without_contents<'a>(lines: Vec<&'a [u8]>) -> Vec<&'a [u8]> {
+    let mut within = false;
+    let mut kept = Vec::new();
+    for line in lines {
+        within = is_contents(line) || within && !line.starts_with(b"#");
+        if !within {
+            kept.push(line);
         }
     }
-    parts.join(&b'/')
+    kept
+}
+
+fn is_contents(line: &[u8]) -> bool {
+    let lower = heading(line).map(|(_, text)| text.to_ascii_lowercase());
+    matches!(lower.as_deref(), Some(b"contents" | b"table of contents"))
+}
+
+/// The lines without blank ones at the end.
+pub fn without_blank_end<'a, 'b>(lines: &'b [&'a [u8]]) -> &'b [&'a [u8]] {
+    let blank = lines.iter().rev().take_while(|line| is_blank(line)).count();
+    &lines[..lines.len() - blank]
+}
+
+/// The lines with these headings moved so that the shallowest comes to be at the
+/// target, or the number of the line that cannot.
+pub fn shifted(lines: &[&[u8]], headings: &[Heading], target: i32) -> Result<Vec<Vec<u8>>, usize> {
+    let mut moved: Vec<Vec<u8>> = lines.iter().map(|line| line.to_vec()).collect();
+    let shallowest = headings.iter().map(|heading| heading.level).min();
+    let shift = shallowest.map_or(0, |level| target - level);
+    for heading in headings {
+        let level = heading.level + shift;
+        if level > 6 {
+            return Err(heading.line + 1);
+        }
+        moved[heading.line] = [&b"######"[..level as usize], b" ", heading.text].concat();
+    }
+    Ok(moved)
 }

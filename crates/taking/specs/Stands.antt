@@ -6,8 +6,8 @@ use Rattle.regions.specs.declared.survey.Surveyed.{Surveyed}
 use Rattle.regions.specs.declared.survey.Surveyed.the-variants.{Wrong, NoRegion as Bare, Regions as Some}
 use Rattle.filling.specs.declared.Filled.{Filled}
 use Rattle.filling.specs.declared.Filled.the-variants.{Text, NoRegion, Refused}
-use Rattle.fragment.specs.declared.Stand.{Stand}
-use Rattle.fragment.specs.declared.Stand.the-variants.{On, Done as Ended}
+use Rattle.taking.specs.declared.Stand.{Stand}
+use Rattle.taking.specs.declared.Stand.the-variants.{On, Done as Ended}
 
 -- where a fill starts, and where it stands behind a region
 abbrev pub firstOf : ℕ → Surveyed → Stand

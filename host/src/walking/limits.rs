@@ -1,9 +1,9 @@
 //! L, B and buffer sizes for a case, from its own running texts and counts.
 
-use super::model::{Step, Walk};
+use super::steps::{Step, Walk};
 use crate::random::Random;
 
-#[derive(Clone, Copy, Debug)]
+#[derive(Clone, Copy, PartialEq, Debug)]
 pub struct Limits {
     pub limit: u64,
     pub allowance: u32,
@@ -18,10 +18,11 @@ pub const MOST: u64 = 1_048_576;
 const BAD: [u64; 7] = [0, 0, MOST + 1, (1 << 32) + 1, 1 << 63, u64::MAX - 1, u64::MAX];
 
 impl Limits {
-    /// Buffers that are just large enough.
-    pub fn of(limit: usize, allowance: u32, records: usize) -> Self {
+    /// Buffers that are just large enough, where work has to hold so many texts and
+    /// two more.
+    pub fn of(limit: usize, allowance: u32, texts: usize) -> Self {
         let limit = limit.clamp(1, MOST as usize);
-        Limits { limit: limit as u64, allowance, out: limit, work: (records + 2) * limit }
+        Limits { limit: limit as u64, allowance, out: limit, work: (texts + 2) * limit }
     }
 
     fn with_room(mut self, random: &mut Random) -> Self {
@@ -63,10 +64,10 @@ impl Needs {
 /// Limits with room to spare, just enough, one short of a running text, at one, one
 /// short of the files taken in, random ones, and buffers that are too short. Where
 /// no text is tested all limits are alike, and two of them will do.
-pub fn random_limits(needs: &Needs, records: usize, random: &mut Random) -> Vec<Limits> {
+pub fn random_limits(needs: &Needs, texts: usize, random: &mut Random) -> Vec<Limits> {
     let (longest, taken) = (needs.longest(), needs.taken());
     if needs.lengths.is_empty() {
-        let limits = Limits::of(random.within(1, 40), random.pick(&[0, 1, u32::MAX]), records);
+        let limits = Limits::of(random.within(1, 40), random.pick(&[0, 1, u32::MAX]), texts);
         return vec![limits.with_room(random), too_short(limits, random)];
     }
     let more = taken + random.within(1, 3) as u32;
@@ -77,13 +78,13 @@ pub fn random_limits(needs: &Needs, records: usize, random: &mut Random) -> Vec<
     let below = random.within(1, longest.max(1));
     let spare = longest + random.within(1, 100);
     vec![
-        Limits::of(spare, ample, records).with_room(random),
-        Limits::of(longest, taken, records),
-        Limits::of(some.saturating_sub(1), ample, records),
-        Limits::of(random.pick(&[some, below, 1]), random.pick(&[taken, fewer]), records),
-        Limits::of(longest, short, records),
-        Limits::of(longest.saturating_sub(1), taken.saturating_sub(1), records),
-        too_short(Limits::of(some, taken, records), random),
+        Limits::of(spare, ample, texts).with_room(random),
+        Limits::of(longest, taken, texts),
+        Limits::of(some.saturating_sub(1), ample, texts),
+        Limits::of(random.pick(&[some, below, 1]), random.pick(&[taken, fewer]), texts),
+        Limits::of(longest, short, texts),
+        Limits::of(longest.saturating_sub(1), taken.saturating_sub(1), texts),
+        too_short(Limits::of(some, taken, texts), random),
     ]
 }
 
@@ -105,7 +106,7 @@ fn too_short(mut limits: Limits, random: &mut Random) -> Limits {
 
 /// Every limit at or one short of a running text, up to the 40 shortest, and every
 /// allowance up to the files taken in, or to 8.
-pub fn all_limits(needs: &Needs, records: usize) -> Vec<Limits> {
+pub fn all_limits(needs: &Needs, texts: usize) -> Vec<Limits> {
     let mut lengths = needs.lengths.clone();
     lengths.push(needs.longest() + 1);
     lengths.sort_unstable();
@@ -114,9 +115,28 @@ pub fn all_limits(needs: &Needs, records: usize) -> Vec<Limits> {
     let mut limits = Vec::new();
     for length in lengths {
         for allowance in 0..=needs.taken().min(8) {
-            limits.push(Limits::of(length, allowance, records));
-            limits.push(Limits::of(length.saturating_sub(1), allowance, records));
+            limits.push(Limits::of(length, allowance, texts));
+            limits.push(Limits::of(length.saturating_sub(1), allowance, texts));
         }
     }
     limits
+}
+
+/// The largest L and the next number, 0, and each buffer one byte short.
+pub fn edge_limits(texts: usize) -> Vec<Limits> {
+    let most = Limits::of(MOST as usize, 0, texts);
+    let past = Limits { limit: MOST + 1, allowance: 0, out: most.out + 1, work: most.work * 2 };
+    let (out, work) = (most.out - 1, most.work - 1);
+    vec![most, past, Limits { limit: 0, ..most }, Limits { out, ..most }, Limits { work, ..most }]
+}
+
+/// Each of them once.
+pub fn distinct(limits: Vec<Limits>) -> Vec<Limits> {
+    let mut found: Vec<Limits> = Vec::new();
+    for limits in limits {
+        if !found.contains(&limits) {
+            found.push(limits);
+        }
+    }
+    found
 }

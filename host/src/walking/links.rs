@@ -1,6 +1,20 @@
-//! Links of a file, many of them to a name of its case.
+//! Names of files, and links of a file, many of them to a name of its case.
 
 use crate::random::Random;
+
+/// A name with the file's number in it.
+pub fn name(at: usize, random: &mut Random) -> String {
+    match random.below(16) {
+        0..=3 => format!("docs/{at}.md"),
+        4..=5 => format!("docs/b/{at}.md"),
+        6 if at < 26 => char::from(b'a' + at as u8).to_string(),
+        7 if random.one_in(8) => format!("{at:x>255}"),
+        8 => format!(" {at} "),
+        9 if random.one_in(8) => format!("{at}:peer"),
+        10 => random.pick(&["/", "docs//", "../", "./"]).to_string() + &at.to_string(),
+        _ => format!("{at}.md"),
+    }
+}
 
 /// What a link's fragment can be; half the links have none or an empty one.
 const FRAGMENTS: [&str; 8] = ["", "", "", "#", "#k", "#k", "#k#l", "#a(b"];
@@ -20,7 +34,7 @@ pub fn link(file: &str, names: &[String], random: &mut Random) -> String {
 }
 
 /// A path that resolves to a name, if that name has no part that goes.
-fn path(file: &str, to: &str, random: &mut Random) -> String {
+pub fn path(file: &str, to: &str, random: &mut Random) -> String {
     let dir = file.rfind('/').map_or("", |at| &file[..at]);
     let depth = dir.split('/').filter(|part| !part.is_empty()).count();
     let beside = to.strip_prefix(dir).and_then(|rest| rest.strip_prefix('/'));

@@ -1,10 +1,10 @@
-//! One fill of the library on lent memory, every byte of it looked at.
+//! One call of the library on lent memory, every byte of it looked at.
 
-use jilgyemot_host::answer::Answer;
-use jilgyemot_host::filling::case::Case;
-use jilgyemot_host::filling::limits::Limits;
+use super::limits::Limits;
+use crate::answer::Answer;
 
-use crate::library_fill::{fill, given};
+/// A call of the library: what is handed in, limits, output and work.
+pub type Function = fn([&[u8]; 4], &Limits, &mut [u8], &mut [u8]) -> Answer;
 
 /// Bytes kept before and behind the lent buffers.
 const GUARD: usize = 64;
@@ -61,49 +61,57 @@ impl Lent {
     /// from call to call. The work buffer has no zero before.
     pub fn call(
         &mut self,
-        case: &Case,
+        function: Function,
+        given: [&[u8]; 4],
         limits: &Limits,
         expected: &Answer,
         written: &[u8],
     ) -> Result<(), String> {
+        let starts = self.renew(given, limits);
+        let inputs = std::array::from_fn(|at| &self.inputs[at][starts[at]..]);
+        let answer = function(inputs, limits, self.out.lent(), self.work.lent());
+
+        let out = self.out.after();
+        let behind = out.get(written.len()..).unwrap_or(out);
+        let checks = [
+            ("the answer", answer == *expected),
+            ("the output's start", out.starts_with(written)),
+            ("the output behind the text", only(behind, self.out.pattern)),
+            ("the bytes around the output", self.out.is_kept_around()),
+            ("work, which is not zero", only(self.work.after(), 0)),
+            ("the bytes around work", self.work.is_kept_around()),
+            ("what was handed in", inputs == given),
+        ];
+        let wrong: Vec<_> =
+            checks.iter().filter(|(_, same)| !same).map(|(what, _)| *what).collect();
+        if wrong.is_empty() {
+            return Ok(());
+        }
+        let shown = out.len().min(written.len() + GUARD);
+        Err(format!(
+            "wrong: {}\n{limits:?}, buffers filled with {:02X}\n\
+             expected {expected:?}\nlibrary  {answer:?}\n\
+             expected at the output's start {}\nlibrary, with some bytes behind    {}",
+            wrong.join(", "),
+            self.out.pattern,
+            written.escape_ascii(),
+            out[..shown].escape_ascii(),
+        ))
+    }
+
+    /// Copies what is handed in, and renews the buffers. The answer is where the copies
+    /// start.
+    fn renew(&mut self, given: [&[u8]; 4], limits: &Limits) -> [usize; 4] {
         self.calls += 1;
         let pattern = (self.calls * 37) as u8;
         let starts = [1, 3, 5, 7].map(|step| self.calls * step % 8);
-        for ((input, from), &start) in self.inputs.iter_mut().zip(given(case)).zip(&starts) {
+        for ((input, from), &start) in self.inputs.iter_mut().zip(given).zip(&starts) {
             input.clear();
             input.resize(start, pattern);
             input.extend_from_slice(from);
         }
         self.out.renew(limits.out, pattern, self.calls / 8 % 8);
         self.work.renew(limits.work, pattern | 1, self.calls / 64 % 8);
-
-        let inputs = std::array::from_fn(|at| &self.inputs[at][starts[at]..]);
-        let &Limits { limit, allowance, .. } = limits;
-        let answer = fill(inputs, limit, allowance, self.out.lent(), self.work.lent());
-
-        let same_inputs = inputs == given(case);
-        let out = self.out.after();
-        let checks = [
-            ("the answer", answer == *expected),
-            ("the output's start", out.starts_with(written)),
-            ("the output behind the text", only(out.get(written.len()..).unwrap_or(out), pattern)),
-            ("the bytes around the output", self.out.is_kept_around()),
-            ("work, which is not zero", only(self.work.after(), 0)),
-            ("the bytes around work", self.work.is_kept_around()),
-            ("what was handed in", same_inputs),
-        ];
-        if checks.iter().all(|(_, same)| *same) {
-            return Ok(());
-        }
-        let wrong = checks.iter().filter(|(_, same)| !same).map(|(what, _)| *what);
-        let shown = out.len().min(written.len() + GUARD);
-        Err(format!(
-            "wrong: {}\n{limits:?}, buffers filled with {pattern:02X}\n\
-             expected {expected:?}\nlibrary  {answer:?}\n\
-             expected at the output's start {}\nlibrary, with some bytes behind    {}",
-            wrong.collect::<Vec<_>>().join(", "),
-            written.escape_ascii(),
-            out[..shown].escape_ascii(),
-        ))
+        starts
     }
 }

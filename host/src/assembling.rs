@@ -1,0 +1,11 @@
+//! The assembly: cases, and what has to be answered.
+
+pub mod case;
+pub mod examples;
+pub mod links;
+pub mod model;
+pub mod oracle;
+pub mod sets;
+pub mod shorter;
+pub mod texts;
+pub mod timed;

@@ -1,0 +1,97 @@
+//! What an assembly has to answer. Texts and faults are those of the Rust's
+//! `assembly::assemble`; its messages are taken apart into number and places. Of L,
+//! which the Rust does not have, the model tells.
+
+use doc_gen::assembly::{self, Member};
+
+use super::case::Case;
+use super::model::walk;
+use crate::walking::expected::{Expected, difference};
+use crate::walking::set::{File, Handed, ascii};
+use crate::walking::steps::{End, Fault, Place, Walk};
+
+/// The refusals of an assembly.
+pub const REFUSALS: [u64; 13] = [1, 2, 3, 4, 5, 6, 7, 8, 14, 16, 17, 18, 19];
+
+/// The members, as the Rust takes them.
+pub fn members(case: &Case) -> Vec<Member> {
+    let files = case.set.files();
+    let member = |record: usize| {
+        let [path, text] = [files[record].0, files[record].1].map(|part| ascii(part).to_string());
+        Member { path, text }
+    };
+    case.members().into_iter().map(member).collect()
+}
+
+fn rust(case: &Case) -> End {
+    match assembly::assemble(&members(case), ascii(&case.url)) {
+        Ok(text) => End::Text(text.into_bytes()),
+        Err(message) => match taken_apart(&message, &case.set.files()) {
+            Some(fault) => End::Fault(fault),
+            None => panic!("no number is known for {message:?}"),
+        },
+    }
+}
+
+fn taken_apart(message: &str, files: &[File]) -> Option<Fault> {
+    untitled(message, files).or_else(|| past(message, files)).or_else(|| shared(message, files))
+}
+
+/// `PATH: no leading H1, ..`
+fn untitled(message: &str, files: &[File]) -> Option<Fault> {
+    let path = message.strip_suffix(": no leading H1, so the member has no title to sit under")?;
+    let record = files.iter().position(|(name, _)| *name == path.as_bytes())?;
+    Some(Fault::at(18, Place { file: record + 1, line: 0 }))
+}
+
+/// `PATH:LINE: 'TEXT' is H6 and would become H7, which .. no room for.` No name that is
+/// made here holds `: '`.
+fn past(message: &str, files: &[File]) -> Option<Fault> {
+    let known = message.contains(", which markdown has no room for.\n  Its member's headings");
+    let place = |(at, (name, _)): (usize, &File)| {
+        let (line, _) = message.strip_prefix(ascii(name))?.strip_prefix(':')?.split_once(": '")?;
+        Some(Place { file: at + 1, line: line.parse().ok()? })
+    };
+    let place = files.iter().enumerate().find_map(place)?;
+    known.then(|| Fault::at(16, place))
+}
+
+/// `'TEXT' is a heading in both OTHER:LINE and PATH:LINE.`, read from its end. No name
+/// that is made here holds ` and ` or ` both `.
+fn shared(message: &str, files: &[File]) -> Option<Fault> {
+    const END: &str = ".\n  A link to one of them would land on the other, so rename one.";
+    let (rest, place) = last_place(message.strip_suffix(END)?, " and ", files)?;
+    let (_, second) = last_place(rest, " is a heading in both ", files)?;
+    Some(Fault { number: 19, place, second })
+}
+
+/// What stands before the words, and the place behind them that ends the message.
+fn last_place<'a>(message: &'a str, words: &str, files: &[File]) -> Option<(&'a str, Place)> {
+    let (rest, line) = message.rsplit_once(':')?;
+    let before = |(at, (name, _)): (usize, &File)| {
+        Some((at + 1, rest.strip_suffix(ascii(name))?.strip_suffix(words)?))
+    };
+    let (file, before) = files.iter().enumerate().find_map(before)?;
+    Some((before, Place { file, line: line.parse().ok()? }))
+}
+
+/// What a case has to answer at any limits. Says where the model and the Rust differ.
+pub fn expected(case: &Case) -> Result<Expected, String> {
+    let walk = match case.refusal() {
+        // 8, which limits give, comes before it.
+        Some([_, 14, _, line, ..]) => {
+            let place = Place { file: 0, line: line as usize };
+            Walk::ended(End::Fault(Fault::at(14, place)))
+        }
+        Some(answer) => return Ok(Expected::refused(answer)),
+        None => walked(case)?,
+    };
+    let texts = case.set.files().len() + case.lines();
+    Ok(Expected { refused: None, walk, texts })
+}
+
+fn walked(case: &Case) -> Result<Walk, String> {
+    let walk = walk(&case.set.files(), &case.members(), &case.url);
+    let end = rust(case);
+    if walk.end == end { Ok(walk) } else { Err(difference(&walk, &end, 0)) }
+}

@@ -1,0 +1,53 @@
+//! What a call has to answer at any limits.
+
+use super::limits::Limits;
+use super::steps::{End, Walk};
+use crate::answer::Answer;
+use crate::refusals::{Sizes, short_sizes};
+
+pub struct Expected {
+    /// One of 1 to 7.
+    pub refused: Option<Answer>,
+    pub walk: Walk,
+    /// How many texts the work buffer holds, besides two.
+    pub texts: usize,
+}
+
+impl Expected {
+    /// Of a case that is refused before any limit is looked at.
+    pub fn refused(answer: Answer) -> Self {
+        Expected { refused: Some(answer), walk: Walk::ended(End::NoRegion), texts: 0 }
+    }
+
+    /// The six numbers; none where the walk is unfinished.
+    pub fn answer(&self, limits: &Limits) -> Option<Answer> {
+        let &Limits { limit, allowance, out, work } = limits;
+        let sizes = Sizes { limit, out: out as u64, work: work as u64 };
+        let refused = self.refused.or_else(|| short_sizes(sizes, self.texts));
+        refused.or_else(|| self.walk.answer(limit, allowance))
+    }
+
+    /// What the output begins with after a call with this answer.
+    pub fn written(&self, answer: &Answer) -> &[u8] {
+        match &self.walk.end {
+            End::Text(text) if answer[0] == 0 => text,
+            _ => &[],
+        }
+    }
+}
+
+/// The end of the model's walk beside that of the Rust.
+pub fn difference(model: &Walk, rust: &End, reads: usize) -> String {
+    let [model, rust] = [(&model.end, model.taken()), (rust, reads)].map(shown);
+    format!("model {model}\nRust  {rust}")
+}
+
+fn shown((end, taken): (&End, usize)) -> String {
+    let end = match end {
+        End::Text(text) => format!("text {}", text.escape_ascii()),
+        End::NoRegion => "no region".to_string(),
+        End::Fault(fault) => format!("refusal {fault:?}"),
+        End::Unfinished => "unfinished".to_string(),
+    };
+    format!("{end}, {taken} files taken in")
+}
