@@ -32,7 +32,7 @@ use Rattle.assembly.specs.declared.Assembled.{Assembled}
 use Rattle.assembly.specs.declared.Assembled.the-variants.{Text, Refused}
 use Rattle.assembly.specs.Parts.{ruleBefore, emitIn, targetIn, putAnswer, CanEmit, Running, Added, AddedBehind}
 use Rattle.assembly.proofs.StandLaws.{emit-on, members-on, member-on, emitted-some}
-use Rattle.assembly.proofs.TurnLaws.{emit-good, emit-past, behind-stops, behind-put, last-put}
+use Rattle.assembly.proofs.TurnLaws.{shifted-good, shifted-past, behind-stops, behind-put, last-put}
 
 -- member i behind the text, by what its shift is
 module _ {index contents set : List ℕ} {n : ℕ} (room : Room) (w : List ℕ) (able : CanEmit index contents set n (room .limit) w) (i : ℕ) (h : i < n) (url : List ℕ)
@@ -48,13 +48,13 @@ module _ {index contents set : List ℕ} {n : ℕ} (room : Room) (w : List ℕ) 
 
   pub behind-past : (line : ℕ) → ShiftBelow (sourceText text contents w) (PastAt line) → Behind (m .file) (Refused (HeadingLevel (place (m .file) line)))
   behind-past line q =
-      let p = emit-past (titlesIn index contents w set n) url lines (preparedIn index contents w (memberAt set i)) refl line (shift-here (PastAt line) q) in
+      let p = shifted-past (titlesIn index contents w set n) url lines (preparedIn index contents w (memberAt set i)) refl line (shift-here (PastAt line) q) in
       subst (λ (x : Member). Behind (x .file) (Refused (HeadingLevel (place (x .file) line)))) (sym e) (behind-stops i (take (room .at) w) w v (HeadingLevel (place (memberAt set i .file) line)) (p .0) (p .1))
 
   pub behind-lines : room .at ≤ room .limit → (z : ℤ) → ShiftBelow (sourceText text contents w) (By z) → (r : Put)
       → Wrote room (ruleBefore i ++ emittedText (targetIn index contents w url set n (memberAt set i)) z lines) w v r → Behind (m .file) (putAnswer (m .file) r)
   behind-lines below z q r p =
-      let g = emit-good (titlesIn index contents w set n) url lines (preparedIn index contents w (memberAt set i)) refl z (shift-here (By z) q) in
+      let g = shifted-good (titlesIn index contents w set n) url lines (preparedIn index contents w (memberAt set i)) refl z (shift-here (By z) q) in
       let es : List (List ℕ) = emittedLines (targetIn index contents w url set n (memberAt set i)) z lines in
       subst (λ (x : Member). Behind (x .file) (putAnswer (x .file) r)) (sym e)
       (behind-put room i w below (able .fits) es g (emitted-some able i h (titlesIn index contents w set n) url es g) v r p)

@@ -19,18 +19,17 @@ use Rattle.link.specs.Target.{rewriteTarget}
 use Rattle.walk.specs.Outcome.{text, outcome}
 use Rattle.walk.specs.Parts.{Part, good, flawed}
 use Rattle.walk.specs.Steps.{Steps, go, given, refused, judge}
-use Rattle.shift.specs.Shift.{shiftFor}
 use Rattle.shift.specs.declared.level.Shift.the-variants.{By, PastAt}
-use Rattle.shift.proofs.ShiftLaws.{past-none, past-some}
 use Rattle.put.specs.Put.{Written, Wrote}
 use Rattle.put.specs.declared.Room.{Room}
 use Rattle.put.specs.declared.Put.{Put}
 use Rattle.put.specs.declared.Put.the-variants.{To, Over}
 use Rattle.member.specs.Member.{Prepared}
 use Rattle.member.specs.Lines.{keptLines}
-use Rattle.member.specs.Outline.{movedKinds, ShiftBelow}
+use Rattle.member.specs.Outline.{ShiftBelow}
 use Rattle.emission.specs.Emit.{emit, joinLines}
 use Rattle.emission.specs.Emission.{emittedLines}
+use Rattle.emission.proofs.EmitLaws.{emit-good, emit-past}
 use Rattle.assembly.specs.Assemble.{emitAll, readAssembled}
 use Rattle.assembly.specs.declared.Assembled.the-variants.{Text, Refused}
 use Rattle.assembly.specs.Parts.{ruleBefore, putAnswer, Running, AddedBehind, AssembledWithin}
@@ -39,13 +38,14 @@ use Rattle.assembly.proofs.RuleLaws.{join-rule, join-some}
 -- ---- one member, by whether a heading goes past level 6
 
 module _ (titles : List ℕ → Option (List ℕ)) (url s : List ℕ) (m : Prepared) (kept : m .lines ≡ keptLines s) where
-  pub emit-good : (z : ℤ) → ShiftBelow s (By z) → emit titles url m ≡ good (emittedLines (rewriteTarget titles url (parentDir (m .name))) z s)
-  unfolding emit
-  emit-good z h = rw (kept, past-none (λ n. HeadingLevel (place (m .file) n)) (shiftFor 2 (movedKinds s)) 1 (movedKinds s) (h .1 .1), h .0)
+  pub shifted-good : (z : ℤ) → ShiftBelow s (By z) → emit titles url m ≡ good (emittedLines (rewriteTarget titles url (parentDir (m .name))) z s)
+  shifted-good z h =
+      emit-good titles url m s kept (h .1 .1) ∙ ap (λ (y : ℤ). good (emittedLines (rewriteTarget titles url (parentDir (m .name))) y s)) (sym (h .0))
 
-  pub emit-past : (n : ℕ) → ShiftBelow s (PastAt n) → (xs : List Refusal) × (emit titles url m ≡ flawed (HeadingLevel (place (m .file) n)) xs)
-  unfolding emit
-  emit-past n h = let p = past-some (λ n. HeadingLevel (place (m .file) n)) (shiftFor 2 (movedKinds s)) 1 (movedKinds s) (h .0) in (p .0, rw (kept, p .1, h .1))
+  pub shifted-past : (n : ℕ) → ShiftBelow s (PastAt n) → (xs : List Refusal) × (emit titles url m ≡ flawed (HeadingLevel (place (m .file) n)) xs)
+  shifted-past n h =
+      let p = emit-past titles url m s kept (h .0) in
+      (p .0, p .1 ∙ ap (λ (k : ℕ). flawed (HeadingLevel (place (m .file) k)) (p .0)) (sym (h .1)))
 
 -- ---- one member behind the text
 
