@@ -5,5 +5,4 @@ pub mod Checks
 pub mod ListLaws
 pub mod GivenLaws
 pub mod FillCallLaws
-pub mod FilesLaws
 pub mod AssembleCallLaws

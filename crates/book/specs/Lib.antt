@@ -3,4 +3,3 @@ pub mod BookWalk
 pub mod Calls
 pub mod Demand
 pub mod Given
-pub mod Files

@@ -4,7 +4,6 @@ ghost use Prim.Native.Nat.{_≤_};
 ghost use lib.ListN.{length};
 ghost use Rattle.book.specs.Calls.{assembleOutcome, answerOf, outputAfter, workAfter};
 ghost use Rattle.book.specs.Given.{assembled, readAnswer, Fits};
-use crate::files;
 use crate::give;
 use answer::Answer;
 use assembly::Assembled;
@@ -42,7 +41,7 @@ fn run(
         Checked::Passed => {
             let count = fileset::members::line_count(list);
             let mut set = [0usize; 704];
-            files::put_files(&rows, &lines, count, &mut set);
+            listed::put_files(&rows, &lines, count, &mut set);
             let limit = sizes.limit;
             answer_of(assembly::assemble(index, contents, url, &mut set, count, limit, limit, work))
         }

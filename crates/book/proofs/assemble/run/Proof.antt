@@ -6,7 +6,7 @@ use Prim.Native.Nat.{ℕ}
 use Rattle.index.specs.Index.{records}
 use Rattle.fileset.specs.Check.{bookChecked, Passes, Listed}
 use Rattle.fileset.specs.declared.check.Checked.the-variants.{Passed}
-use Rattle.book.proofs.FilesLaws.{are-listed, all-lie, files-same}
+use Rattle.listed.proofs.FilesLaws.{are-listed, all-lie, files-same}
 use Rattle.book.proofs.AssembleCallLaws.{assembled-read, assemble-room, assemble-held, assemble-passed, assemble-stopped}
 use borrow.Author.Needs.{needs}
 use Rattle.book.proofs.assemble.run.Statement.{statement}

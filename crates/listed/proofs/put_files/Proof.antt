@@ -3,12 +3,12 @@ use native.Mathlib.Omega.{arith}
 use Prim.Native.Nat.{ℕ, _-_, _≤_}
 use mathlib.Core.Path.{_≡_, ap, _∙_}
 use lib.ListN.{getD}
-use Rattle.book.specs.Files.{memberOf, AreFiles}
-use Rattle.book.proofs.FilesLaws.{files-none, files-more}
+use Rattle.listed.specs.Files.{memberOf, AreFiles}
+use Rattle.listed.proofs.FilesLaws.{files-none, files-more}
 use Rattle.index.proofs.RowsLaws.{row-fits}
 use borrow.Author.Needs.{needs}
-use Rattle.book.proofs.files.put_files.Statement.{statement}
-use Rattle.book.proofs.files.put_files.Tie as tie
+use Rattle.listed.proofs.put_files.Statement.{statement}
+use Rattle.listed.proofs.put_files.Tie as tie
 
 abbrev Inv-loop : tie.InvT-loop
 Inv-loop rows lines count set₀ i₀ set i = (i ≤ count) × AreFiles rows lines set i

@@ -28,8 +28,7 @@ use Rattle.filling.proofs.FilesLaws.{find-files, row-file}
 use Rattle.members.specs.Members.{memberAt, numbersOf, nameOf, fileIn, filesFrom, Lies, AllLie}
 use Rattle.members.specs.declared.Member.{Member}
 use Rattle.members.proofs.MembersLaws.{put-length, member-put-same, member-put-other}
-use Rattle.book.specs.Book.{membersOf}
-use Rattle.book.specs.Files.{memberOf, lineMember, AreListed, AreFiles}
+use Rattle.listed.specs.Files.{memberOf, lineMember, AreListed, AreFiles}
 use Rattle.index.proofs.NameLaws.{row-short}
 
 -- a name's record is one of them, and there is one for each name
@@ -116,7 +115,7 @@ module _ (index contents list url rows lines : List ℕ) (limit out work n : ℕ
             let k : getD lines i 0 ≡ getD lines j 0 = omega arith in
             ap (nameOf index) (s .same i h) ∙ ap (λ (d : ℕ). nameOf index (memberOf d (rowAt rows d))) k ∙ sym (ap (nameOf index) (s .same j g))
 
-    pub files-same : (w : List ℕ) → filesFrom index contents w set 0 n ≡ membersOf (files index contents) (members (records index) list)
+    pub files-same : (w : List ℕ) → filesFrom index contents w set 0 n ≡ map (fileAt (files index contents)) (members (records index) list)
     files-same w =
         let e : n ≡ length (members (records index) list) = c ∙ sym (members-length (records index) (names list)) in
         rw e (files-listed index contents w set (files index contents) 0 (members (records index) list) at-line)

@@ -1,7 +1,7 @@
 -- `member_of` meets its contract. Assumes nothing.
 use borrow.Author.Needs.{needs}
-use Rattle.book.proofs.files.member_of.Statement.{statement}
-use Rattle.book.proofs.files.member_of.Tie as tie
+use Rattle.listed.proofs.member_of.Statement.{statement}
+use Rattle.listed.proofs.member_of.Tie as tie
 
 add-t4 : tie.Need-add-t4
 add-t4 c = search needs

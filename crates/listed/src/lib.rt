@@ -2,7 +2,7 @@
 ghost use mathlib.Core.Path.{_≡_};
 ghost use Prim.Native.Nat.{_+_, _≤_, _<_};
 ghost use lib.ListN.{length};
-ghost use Rattle.book.specs.Files.{noOutline, memberOf, AreListed, AreFiles};
+ghost use Rattle.listed.specs.Files.{noOutline, memberOf, AreListed, AreFiles};
 use heading::level::TopLevel;
 use index::rows::Row;
 use member::outline::Extent;
