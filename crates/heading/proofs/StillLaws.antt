@@ -1,16 +1,18 @@
 -- Lines that leave the heading walk as it is: blank lines, and lines that do not begin with a byte of `isFirst`; and the walk over lines and lines after
 -- them. Assumes nothing.
-use Prim.Native.Nat.{ℕ, zero, suc}
+use Prim.Native.Nat.{ℕ, zero, suc, _≤_}
 use native.Mathlib.Omega.{arith}
 use mathlib.Core.Path.{_≡_, refl, ap, _∙_}
-use mathlib.Core.Bool.{Bool, true, false, _&&_}
+use mathlib.Core.Bool.{Bool, true, false, _&&_, _||_}
 use mathlib.Core.List.{List, [], _∷_, _++_}
 use lib.ListN.{length, getD, replicate}
-use lib.Dec.{eqb}
+use lib.Dec.{eqb, leb, ltb}
+use borrow.Author.Tests.{ltb-false, lt-leb, ne-eqb}
 use Rattle.text.specs.Bytes.{first}
 use Rattle.text.specs.Pattern.{bytes, startsWith}
 use Rattle.text.specs.Space.{isSpace, lead, trimStart, isBlank}
 use Rattle.text.specs.First.{isFirst, begins}
+use Rattle.text.proofs.BytesLaws.{or-left, or-right}
 use Rattle.text.proofs.FirstLaws.{blank-trimmed, blank-find, blank-begins, begins-trimmed, begins-starts}
 use Rattle.fence.specs.Fences.{opener, opens}
 use Rattle.heading.specs.Walk.{hashes, headingOf, closes, opensComment, writtenKind, commentAfter, outsideKind, outsideAfter, stepKind, stepAfter, kindsFrom, statesAfter, stillKind}
@@ -32,16 +34,28 @@ no-hash (x ∷ l) e = rw (and-true (eqb x 0x23) e)
     and-true true q = q
     and-true false q = refl
 
--- whether a line begins with a byte of `isFirst`, by its first byte
-pub begins-none : (l : List ℕ) → length l ≡ 0 → begins l ≡ false
+-- a byte that is none of `isFirst`, and a line that begins with one
+pub no-first : (b : ℕ) → (ltb b 0x24 || (eqb b 0x3C || (eqb b 0x60 || eqb b 0x7E))) ≡ false → isFirst b ≡ false
+unfolding isFirst isSpace
+no-first b e =
+    let h : 0x24 ≤ b = ltb-false b 0x24 (or-left (ltb b 0x24) _ e) in
+    let r = or-right (ltb b 0x24) _ e in
+    let s = or-right (eqb b 0x3C) _ r in
+    rw (ne-eqb b 0x23 (λ q. omega arith), lt-leb b 0x0D (omega arith), ne-eqb b 0x20 (λ q. omega arith), or-left (eqb b 0x3C) _ r, or-left (eqb b 0x60) _ s, or-right (eqb b 0x60) _ s) (and-false (leb 0x09 b))
+  where
+    and-false : (c : Bool) → (((c && false) || false) || (false || false)) ≡ false
+    and-false true = refl
+    and-false false = refl
+
+pub begins-none : (l : List ℕ) → isFirst (getD l 0 0) ≡ false → begins l ≡ false
 unfolding begins
 begins-none [] e = refl
-begins-none (x ∷ l) e = absurd (omega arith)
+begins-none (x ∷ l) e = e
 
-pub begins-some : (l : List ℕ) → (length l ≡ 0 → ⊥) → begins l ≡ isFirst (getD l 0 0)
-unfolding begins
-begins-some [] e = absurd (e refl)
-begins-some (x ∷ l) e = refl
+pub none-blank : (l : List ℕ) → length l ≡ 0 → isBlank l ≡ true
+unfolding isBlank lead first
+none-blank [] e = refl
+none-blank (x ∷ l) e = absurd (omega arith)
 
 -- no fence, no comment's start and no hash stands at the start of a line
 pub record Bare (l : List ℕ) : Type 0 where
@@ -134,11 +148,6 @@ pub still-outside : (f : Fence) → opens f ≡ false → stillKind f ≡ Other
 still-outside Outside e = refl
 still-outside Ticks e = let z : _≡_ {A = ℕ} 0 1 = cc in absurd (omega arith)
 still-outside Tildes e = let z : _≡_ {A = ℕ} 0 1 = cc in absurd (omega arith)
-
-pub open-inside : (f : Fence) → opens f ≡ true → f ≡ Outside → ⊥
-open-inside Outside e q = let z : _≡_ {A = ℕ} 0 1 = cc in absurd (omega arith)
-open-inside Ticks e q = let z : _≡_ {A = Bool} true false = ap opens q in let y : _≡_ {A = ℕ} 0 1 = cc in absurd (omega arith)
-open-inside Tildes e q = let z : _≡_ {A = Bool} true false = ap opens q in let y : _≡_ {A = ℕ} 0 1 = cc in absurd (omega arith)
 
 -- the kinds of lines and lines after them
 pub kinds-append : (st : WalkState) (ls us : List (List ℕ)) → kindsFrom st (ls ++ us) ≡ kindsFrom st ls ++ kindsFrom (statesAfter st ls) us

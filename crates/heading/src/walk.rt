@@ -1,9 +1,9 @@
 // The heading walk: a step a line. A line is what stands between LFs.
-ghost use mathlib.Core.Bool.{cond};
 ghost use mathlib.Core.Path.{_≡_};
 ghost use Prim.Native.Nat.{_≤_};
 ghost use lib.ListN.{length};
-ghost use Rattle.text.specs.First.{begins as beginsWith};
+ghost use mathlib.Core.Bool.{false, cond};
+ghost use Rattle.text.specs.First.{isFirst};
 ghost use Rattle.heading.specs.Walk.{hashes as hashesOf, headingOf, closes as closesBy, opensComment, writtenKind, commentAfter, stepKind, stepAfter, stillKind, walkBegin};
 ghost use Rattle.fence.specs.declared.Fence.the-variants.{Outside};
 use fence::Fence;
@@ -174,15 +174,11 @@ fn inside(fence: Fence, comment: bool, line: &[u8]) -> WalkStep
     quoted(fence, comment)
 }
 
-// Whether a line begins with a byte that a heading, a fence or a comment can begin with, a space byte with them.
-fn begins(line: &[u8]) -> bool
-    ensures { λ r. ⌜ r ≡ beginsWith (now (line .entry)) ⌝ }
+// Whether a heading, a fence, a comment or a space can begin with a byte. Bytes below 24 hex that cannot are not told apart.
+fn may_begin(b: u8) -> bool
+    ensures { λ r. ⌜ (r ≡ false → isFirst b ≡ false) ⌝ }
 {
-    if line.len() == 0 {
-        return false;
-    }
-    let b = line[0];
-    (b == b'#') | (space::is_space(b) | ((b == b'`') | ((b == b'~') | (b == b'<'))))
+    (b < 0x24) | ((b == b'<') | ((b == b'`') | (b == b'~')))
 }
 
 // A line that leaves the state as it is, and is no heading.
@@ -214,18 +210,14 @@ fn read(state: WalkState, line: &[u8]) -> WalkStep
     }
 }
 
-// What a line is, and the state after it. Most lines are told by their first byte; in a comment outside fences any line can end it.
+// What a line is, and the state after it. Most lines are told by their first byte; in a comment any line can end it.
 pub fn step(state: WalkState, line: &[u8]) -> WalkStep
     ensures { λ r. ⌜ (r .kind ≡ stepKind (state .fence) (state .comment) (now (line .entry))) × (r .state ≡ stepAfter (state .fence) (state .comment) (now (line .entry))) ⌝ }
 {
-    if begins(line) {
-        return read(state, line);
-    }
-    let fence = state.fence;
-    if fence::opens(fence) {
+    if line.len() == 0 {
         return still(state);
     }
-    if state.comment {
+    if may_begin(line[0]) | state.comment {
         return read(state, line);
     }
     still(state)
