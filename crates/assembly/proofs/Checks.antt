@@ -37,6 +37,14 @@ Checks =
     × ((assemblyOf (fileOf 1 (bytes "a.md") (bytes "# T") ∷ fileOf 2 (bytes "b.md") (bytes "# U\n# V") ∷ []) ≡ given (bytes "# T\n\n---\n\n# U\n## V\n") 0)
     × (assemblyOf (fileOf 1 (bytes "docs/a.md") (bytes "# T\n[c](../c.md#k)\n") ∷ []) ≡ given (bytes "# T\n[c](https://h/blob/main/c.md#k)\n") 0))
 
+-- "For a name listed twice the later title serves links.", on two files of one name, which no index has
+abbrev pub LaterTitle : Type 0
+LaterTitle = assemblyOf (fileOf 1 (bytes "a") (bytes "# T\n[x](a)") ∷ fileOf 1 (bytes "a") (bytes "# U") ∷ []) ≡ given (bytes "# T\n[x](#u)\n\n---\n\n# U\n") 0
+
 pub checks : Checks
 unfolding first afterLast startsWith endsWith equals find isSpace lead kept trimStart trimEnd trim isBlank split join shows markupAfter plainFrom anchorOf slug plainEndFrom lower isLowered isContents drops shallowestOf hashes textStart textEnd headingOf opener closes opensComment writtenKind commentAfter outsideKind outsideAfter stepKind stepAfter kindsFrom relink relinkOpen relinkTarget step walked resolve targetOf rewriteTarget anchorSelf go judge toldFrom pastFrom upTo prepareAll emitAll assemble withoutContents preparedLines titleOf prepare lineOf earlier sharedIn sharedFrom movable titleNamed emit
 checks = (refl, (refl, refl))
+
+pub later-title : LaterTitle
+unfolding first afterLast startsWith endsWith equals find isSpace lead kept trimStart trimEnd trim isBlank split join shows markupAfter plainFrom anchorOf slug plainEndFrom lower isLowered isContents drops shallowestOf hashes textStart textEnd headingOf opener closes opensComment writtenKind commentAfter outsideKind outsideAfter stepKind stepAfter kindsFrom relink relinkOpen relinkTarget step walked resolve targetOf rewriteTarget anchorSelf go judge toldFrom pastFrom upTo prepareAll emitAll assemble withoutContents preparedLines titleOf prepare lineOf earlier sharedIn sharedFrom movable titleNamed emit
+later-title = refl

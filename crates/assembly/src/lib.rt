@@ -20,7 +20,7 @@ use put::Room;
 use shared::Shared;
 use shift::level::Shift;
 
-pub mod read;
+mod read;
 
 // An assembly's answer: how long the text at the front of its buffer is, or a refusal.
 pub enum Assembled {

@@ -19,10 +19,10 @@ use put::Room;
 use put::Source;
 use put::line;
 
-pub mod read;
+mod read;
 
 // A source with each link's target as it becomes in a directory.
-pub fn put_links(
+fn put_links(
     index: &[u8],
     contents: &[u8],
     url: &[u8],

@@ -17,14 +17,14 @@ use Rattle.heading.specs.declared.level.TopLevel.the-variants.{NoHeading}
 use Rattle.heading.specs.declared.walk.LineKind.{LineKind}
 use Rattle.heading.specs.declared.walk.LineKind.the-variants.{Quoted, Heading, Other}
 use Rattle.heading.proofs.WalkLaws.{kind-within}
-use Rattle.shift.specs.Levels.{HasLevel, AreLevels}
+use Rattle.shift.specs.Levels.{HasLevel}
 use Rattle.shift.specs.Shift.{Told, toldFrom, kindsOf}
 use Rattle.shift.proofs.LevelsLaws.{step-level, Found, found-turn}
 use Rattle.text.proofs.BytesLaws.{part-full}
 use Rattle.text.proofs.PartLaws.{part-part}
 use Rattle.member.specs.Member.{withoutContents, preparedLines, titleOf, movable}
 use Rattle.member.specs.Lines.{keptLines, leftOf, atFirst, CursorIn, IsLine}
-use Rattle.member.specs.Outline.{IsOutline, movedKinds}
+use Rattle.member.specs.Outline.{IsOutline}
 use Rattle.member.specs.Seen.{titledBy, movedKind, titleAt, Placed, SeenWith}
 use Rattle.member.specs.declared.lines.LineCursor.{LineCursor}
 use Rattle.member.specs.declared.outline.Extent.{Extent}
@@ -212,10 +212,6 @@ module _ {s : List ℕ} {c : LineCursor} {z : Seen} (o : Outlines s c z) (e : le
           small = o .small;
         };
       }
-
--- the levels are those of the lines kept up to the end, as `shift_below` requires
-pub outline-levels : {s : List ℕ} {o : Outline} → IsOutline s o → AreLevels (movedKinds (take (o .end) s)) (o .levels .top) (o .levels .deepest)
-outline-levels {s} {o} h = subst (λ (ts : List Told). AreLevels (kindsOf (movable ts)) (o .levels .top) (o .levels .deepest)) (h .lines) (h .levels)
 
 -- a heading's text stands where a machine's number can say
 pub line-placed : {s : List ℕ} {c d : LineCursor} {a e : ℕ} (k : LineKind) → IsLine s c a e k d → length s < 2 ^ 64 → Placed k a

@@ -12,8 +12,7 @@ use Rattle.text.specs.Bytes.{part}
 use Rattle.member.specs.Member.{Prepared}
 use Rattle.members.specs.Members.{memberAt, preparedIn, preparedFrom, AllStand}
 use Rattle.members.proofs.MembersLaws.{prepared-more, prepared-at, prepared-end, prepared-up, prepared-same, source-up}
-use Rattle.walk.specs.Parts.{good, flawed}
-use Rattle.shared.specs.Shared.{sharedIn, sharedFrom, compare}
+use Rattle.shared.specs.Shared.{sharedIn, sharedFrom}
 use Rattle.shared.specs.Marks.{Tells, SharedOf}
 use Rattle.shared.specs.declared.Shared.{Shared}
 use Rattle.shared.specs.declared.Shared.the-variants.{Nowhere, At}
@@ -108,10 +107,3 @@ module _ {index contents set : List ℕ} {count table stop : ℕ} {w₀ w : List
           (f .0)
           (sym found-is ∙ f .1),
     )
-
--- what is found, as members compared
-pub compare-none : (ms : List Prepared) → SharedOf (sharedFrom [] ms) Nowhere → compare ms ≡ good ms
-compare-none ms e = rw e
-
-pub compare-some : (ms : List Prepared) (p q : Place) (f : SharedOf (sharedFrom [] ms) (At p q)) → compare ms ≡ flawed (SharedAnchor p q) (f .0)
-compare-some ms p q f = rw (f .1)

@@ -1,7 +1,7 @@
 -- The table of marks, which spares comparisons, and what the functions find. Nothing here is document 01's: functions promise it.
 use Prim.Native.Nat.{ℕ, _≤_, _/_, _%_}
 use mathlib.Core.Path.{_≡_}
-use mathlib.Core.Bool.{Bool, false}
+use mathlib.Core.Bool.{Bool, true, false}
 use mathlib.Core.Logic.{_⊎_}
 use mathlib.Core.List.{List, [], _∷_}
 use lib.ListN.{length, getD}
@@ -40,12 +40,18 @@ pub record Marked (table : List ℕ) (number file : ℕ) : Type 0 where
   pub two : Holds table (placeTwo number (length table)) file
   pub three : Holds table (placeThree number (length table)) file
 
--- what marking a place leaves: what the table told it tells still; the place tells of the file; and where the answer is false it told of no other
+-- the mark of another file, or of several, stands at a place
+abbrev pub HasOther : List ℕ → ℕ → ℕ → Type 0
+HasOther table p file = (getD table p 0 ≡ 0 → ⊥) × (getD table p 0 ≡ file → ⊥)
+
+-- what marking a place leaves: what the table told it tells still; the place tells of the file; where the answer is false it told of no other, and where it is true it told of one; no other file's mark comes in
 pub record Mark (table after : List ℕ) (at file : ℕ) (other : Bool) : Type 0 where
   pub long : length after ≡ length table
   pub still : (p f : ℕ) → 1 ≤ f → Holds table p f → Holds after p f
   pub own : Holds after at file
   pub alone : other ≡ false → (f : ℕ) → 1 ≤ f → Holds table at f → f ≡ file
+  pub spared : other ≡ true → HasOther table at file
+  pub apart : (p : ℕ) → HasOther after p file → HasOther table p file
 
 -- the same of a number
 pub record Marks (table after : List ℕ) (number file : ℕ) (maybe : Bool) : Type 0 where
@@ -53,6 +59,7 @@ pub record Marks (table after : List ℕ) (number file : ℕ) (maybe : Bool) : T
   pub still : (n f : ℕ) → 1 ≤ f → Marked table n f → Marked after n f
   pub own : Marked after number file
   pub alone : maybe ≡ false → (f : ℕ) → 1 ≤ f → f ≤ 64 → Marked table number f → f ≡ file
+  pub spared : maybe ≡ true → HasOther table (placeOne number (length table)) file × (HasOther table (placeTwo number (length table)) file × HasOther table (placeThree number (length table)) file)
 
 -- the table tells of each heading of lines, and of members
 abbrev pub TellsKind : List ℕ → ℕ → LineKind → List ℕ → Type 0

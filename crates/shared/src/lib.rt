@@ -16,8 +16,8 @@ use member::lines::NextHeading;
 use put::Source;
 use text::pattern;
 
-pub mod marks;
-pub mod read;
+mod marks;
+mod read;
 
 // The places of a heading and of an earlier one with its anchor, or that there are none.
 pub enum Shared {

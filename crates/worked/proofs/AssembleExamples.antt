@@ -67,9 +67,13 @@ Examples =
     × ((two "16" "a\nb\n" 1 "# T# T\n# U\n###### V" ≡ refusal (SharedAnchor (place 2 1) (place 1 1)))
     -- an anchor twice in one member is no 19, nor is it in a member that is listed twice
     × ((assembleOf (bytes "a\t0\t7\n") "# T\n# T" "a\na\n" 24 ≡ text (bytes "# T\n## T\n\n---\n\n# T\n## T\n") 0)
-    -- links: none in a fence; to a member by its title, the later one's of two, and to another file by the URL
-    × (two "31" "a\nb\na\n" 99 "# T# U\n```\n[x](a)\n```\n[x](a)[y](c)" ≡ text (bytes "# T\n\n---\n\n# U\n```\n[x](a)\n```\n[x](#t)[y](u/blob/main/c)\n\n---\n\n# T\n") 0))))))))))))))
+    -- 17 at a member before 16 at a later one
+    × ((two "16" "a\nb\n" 2 "# T# U\n# V\n###### W" ≡ refusal (TextLimit (place 1 0)))
+    -- a blank line at the start is kept; a title is left as it is; a link to a member keeps its fragment
+    × ((one "17" 18 "\n#   T \n[x](a#k)\n\n" ≡ text (bytes "\n#   T \n[x](#k)\n") 0)
+    -- links: none in a fence; to a member by its title, and to another file by the URL
+    × (two "31" "a\nb\na\n" 99 "# T# U\n```\n[x](a)\n```\n[x](a)[y](c)" ≡ text (bytes "# T\n\n---\n\n# U\n```\n[x](a)\n```\n[x](#t)[y](u/blob/main/c)\n\n---\n\n# T\n") 0))))))))))))))))
 
 pub examples : Examples
 unfolding wideLine lower any first afterLast breaks linesFrom startsWith endsWith equals find isSpace lead kept trimStart trimEnd trim isBlank split join numberFrom opener shows markupAfter plainFrom anchorOf slug plainEndFrom isLowered isContents drops shallowestOf hashes textStart textEnd headingOf closes opensComment writtenKind commentAfter outsideKind outsideAfter stepKind stepAfter kindsFrom step walked resolve relink relinkOpen relinkTarget targetOf rewriteTarget isName fieldOf lineOf illFormedFrom recordsFrom filesFrom firstNamed pastFrom twiceFrom wideFrom absentFrom membersFrom indexChecked bookChecked go judge toldFrom headingsPast upTo withoutContents preparedLines titleOf prepare movable anchorLine earlier sharedIn sharedFrom titleNamed emit prepareAll emitAll assemble assembleOutcome
-examples = (refl, (refl, (refl, (refl, (refl, (refl, (refl, (refl, (refl, (refl, (refl, (refl, (refl, (refl, refl))))))))))))))
+examples = (refl, (refl, (refl, (refl, (refl, (refl, (refl, (refl, (refl, (refl, (refl, (refl, (refl, (refl, (refl, (refl, refl))))))))))))))))

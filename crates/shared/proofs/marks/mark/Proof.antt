@@ -27,7 +27,7 @@ same-length-2 : tie.Need-same-length-2
 same-length-2 c = search needs
 
 returns-3 : tie.Need-returns-3
-returns-3 c = let s = c .before .before .before in mark-many (s .args .table .now) (s .args .at) (s .args .file) (s .pre .0)
+returns-3 c = let s = c .before .before .before in mark-many (s .args .table .now) (s .args .at) (s .args .file) (s .pre .0) (λ e. omega arith) (λ e. omega arith)
 
 pub mark-spec : {M : Type 1} → statement M
 mark-spec =
