@@ -56,9 +56,10 @@ void jilgyemot_scan(const uint8_t *text, size_t text_length,
  *      a buffer short                  16  heading past level 6
  *                                      17  text longer than the limit
  * 1 to 4 stand at the index's line, with file 0; 5 at the byte's line, the host
- * first; 6 and 8 at 0, 0; 9 and 10 at the marker, 11 to 15 at the opener. 16 stands in the file named, and its line counts the lines that
- * are put in. 17 stands in the text being filled, at the opener of its region, or
- * at line 0 behind the last region.
+ * first; 6 and 8 at 0, 0; 9 and 10 at the marker, 11 to 15 at the opener. 16
+ * stands in the file named, and its line counts the lines that are put in. 17
+ * stands in the text being filled, at the opener of its region, or at line 0
+ * behind the last region.
  */
 void jilgyemot_fill(const uint8_t *index, size_t index_length,
                     const uint8_t *contents, size_t contents_length,

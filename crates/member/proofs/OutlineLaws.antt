@@ -24,7 +24,7 @@ use Rattle.text.proofs.BytesLaws.{part-full}
 use Rattle.text.proofs.PartLaws.{part-part}
 use Rattle.member.specs.Member.{withoutContents, preparedLines, titleOf, movable}
 use Rattle.member.specs.Lines.{keptLines, leftOf, atFirst, CursorIn, IsLine}
-use Rattle.member.specs.Outline.{IsOutline}
+use Rattle.member.specs.Outline.{IsOutline, movedKinds}
 use Rattle.member.specs.Seen.{titledBy, movedKind, titleAt, Placed, SeenWith}
 use Rattle.member.specs.declared.lines.LineCursor.{LineCursor}
 use Rattle.member.specs.declared.outline.Extent.{Extent}
