@@ -33,11 +33,11 @@ void jilgyemot_scan(const uint8_t *text, size_t text_length,
  * Fills the regions of a host with the files that they name. The index has a
  * line for each file, with its LF: name, start and length of its part of the
  * contents, tabs between them; 0 to 64 lines. A name has 1 to 255 bytes of 20 to
- * 7E hex, a number 1 to 9 digits and no zero in front of others. The limit is 1 to 1,048,576: no
- * text made on the way may be longer. The allowance is how many files may be
- * taken in, each counted as often as a region takes it in. The output has at
- * least `limit` bytes, and work at least (index lines + 2) times `limit`; it may
- * hold anything, and is zero after every call.
+ * 7E hex, a number 1 to 9 digits and no zero in front of others. The limit is 1
+ * to 1,048,576: no text made on the way may be longer. The allowance is how many
+ * files may be taken in, each counted as often as a region takes it in. The
+ * output has at least `limit` bytes, and work at least (index lines + 2) times
+ * `limit`; it may hold anything, and is zero after every call.
  *
  * Accepted: 0, the text's length, how often a file was taken in, 0, 0, 0. The
  * output begins with the text, and its other bytes are unchanged. No region: 1,
