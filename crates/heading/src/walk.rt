@@ -175,7 +175,7 @@ fn inside(fence: Fence, comment: bool, line: &[u8]) -> WalkStep
 }
 
 // Whether a heading, a fence, a comment or a space can begin with a byte. Bytes below 24 hex that cannot are not told apart.
-fn may_begin(b: u8) -> bool
+pub fn may_begin(b: u8) -> bool
     ensures { λ r. ⌜ (r ≡ false → isFirst b ≡ false) ⌝ }
 {
     (b < 0x24) | ((b == b'<') | ((b == b'`') | (b == b'~')))

@@ -9,7 +9,6 @@ use lib.Seq.{take-all, take-append-le}
 use Rattle.text.specs.Space.{isBlank}
 use Rattle.text.specs.Lines.{pieces}
 use Rattle.fence.specs.declared.Fence.{Fence}
-use Rattle.fence.specs.declared.Fence.the-variants.{Outside, Ticks, Tildes}
 use Rattle.heading.specs.Level.{shallowestOf, deepestOf}
 use Rattle.heading.specs.Walk.{stepKind, stepAfter, stillKind, walkBegin}
 use Rattle.heading.specs.declared.level.TopLevel.the-variants.{NoHeading}
@@ -20,6 +19,7 @@ use Rattle.shift.specs.Shift.{Told, toldFrom, kindsOf, upTo}
 use Rattle.shift.proofs.ShiftLaws.{told-take}
 use Rattle.member.specs.Member.{withoutContents, preparedLines, titleOf, movable}
 use Rattle.member.specs.Lines.{keptLines, IsPlain, Plain}
+use Rattle.member.proofs.HeadingLaws.{still-plain}
 use Rattle.member.proofs.TitleLaws.{title-plain, shallowest-plain, deepest-plain}
 
 -- a line more: where it is blank, and where it is not
@@ -65,11 +65,6 @@ module _ (ts : List Told) (t : Told) where
       take-all (upTo (bytesOf (ts ++ (t ∷ [])))) (ts ++ (t ∷ [])) (omega (arith, length-append ts (t ∷ []), length-map ts (λ (u : Told). u .bytes)))
 
 -- a blank line is no heading
-still-plain : (f : Fence) → IsPlain (stillKind f)
-still-plain Outside = tt
-still-plain Ticks = tt
-still-plain Tildes = tt
-
 blank-plain : (f : Fence) (c : Bool) (l : List ℕ) → isBlank l ≡ true → IsPlain (stepKind f c l)
 blank-plain f c l e = subst IsPlain (sym (blank-kind f c l e)) (still-plain f)
 

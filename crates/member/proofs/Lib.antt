@@ -1,4 +1,5 @@
 pub mod LinesLaws
+pub mod PassedLaws
 pub mod HeadingLaws
 pub mod TitleLaws
 pub mod EndLaws

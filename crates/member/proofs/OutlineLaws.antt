@@ -1,6 +1,6 @@
 -- Laws for the loop that prepares a member: the lines kept so far, the title and the levels among them, and where those that are not blank end.
 -- Assumes nothing.
-use Prim.Native.Nat.{ℕ, suc, _+_, _^_, _≤_, _<_}
+use Prim.Native.Nat.{ℕ, zero, suc, _+_, _^_, _≤_, _<_}
 use native.Mathlib.Omega.{arith}
 use mathlib.Core.Path.{_≡_, refl, sym, ap, _∙_, subst}
 use mathlib.Core.Bool.{Bool, true, false, cond}
@@ -12,7 +12,9 @@ use lib.Dec.{eqb}
 use Rattle.text.specs.Bytes.{part}
 use Rattle.text.specs.Space.{isBlank}
 use Rattle.heading.specs.Level.{shallowestOf, deepestOf, IsLevel}
-use Rattle.heading.specs.Walk.{walkBegin}
+use Rattle.fence.specs.declared.Fence.{Fence}
+use Rattle.fence.specs.declared.Fence.the-variants.{Outside, Ticks, Tildes}
+use Rattle.heading.specs.Walk.{walkBegin, stillKind}
 use Rattle.heading.specs.declared.level.TopLevel.the-variants.{NoHeading}
 use Rattle.heading.specs.declared.walk.LineKind.{LineKind}
 use Rattle.heading.specs.declared.walk.LineKind.the-variants.{Quoted, Heading, Other}
@@ -25,7 +27,8 @@ use Rattle.text.proofs.PartLaws.{part-part}
 use Rattle.member.specs.Member.{withoutContents, preparedLines, titleOf, movable}
 use Rattle.member.specs.Lines.{keptLines, leftOf, atFirst, CursorIn, IsLine}
 use Rattle.member.specs.Outline.{IsOutline, movedKinds}
-use Rattle.member.specs.Seen.{titledBy, movedKind, titleAt, Placed, SeenWith}
+use Rattle.member.specs.Passed.{PassedLines, PassedTo}
+use Rattle.member.specs.Seen.{titledBy, movedKind, titleAt, Placed, SeenWith, endedAt}
 use Rattle.member.specs.declared.lines.LineCursor.{LineCursor}
 use Rattle.member.specs.declared.outline.Extent.{Extent}
 use Rattle.member.specs.declared.outline.Outline.{Outline}
@@ -181,6 +184,21 @@ module _ {s : List ℕ} {c d : LineCursor} {z : Seen} {a e : ℕ} {k : LineKind}
         level = subst IsLevel (sym (w .top)) (level-shallower (z .outline .levels .top) (movedKind (z .titled) k) line-level (o .level));
         small = rw (w .deepest) (level-deeper (z .outline .levels .deepest) (movedKind (z .titled) k) line-level (o .small));
       }
+
+-- with lines more that their first bytes tell
+still-seen : (f : Fence) (z : Seen) (a e : ℕ) → SeenWith z a e (stillKind f) (endedAt z e)
+still-seen Outside z a e = record { titled = refl; end = refl; title = refl; top = refl; deepest = refl }
+still-seen Ticks z a e = record { titled = refl; end = refl; title = refl; top = refl; deepest = refl }
+still-seen Tildes z a e = record { titled = refl; end = refl; title = refl; top = refl; deepest = refl }
+
+pub outlines-still : {s : List ℕ} {u : Bool} {c d : LineCursor} {z y : Seen} {n : ℕ} → Outlines s c z → PassedTo s u c (z .outline .end) d n → y ≡ endedAt z n
+    → Outlines s d y
+unfolding PassedLines
+outlines-still {s} {u} {c} {d} {z} {y} {n} o h q = rw q (go (h .count) d n (h .lines))
+  where
+    go : (i : ℕ) (d : LineCursor) (n : ℕ) → PassedLines i s u c (z .outline .end) d n → Outlines s d (endedAt z n)
+    go zero d n k = rw (k .0, k .1) o
+    go (suc i) d n (x, e, k, l) = outlines-line (go i x e k) (l .line) (still-seen (x .state .fence) (endedAt z e) (x .at) n) (l .end)
 
 -- no line is left
 module _ {s : List ℕ} {c : LineCursor} {z : Seen} (o : Outlines s c z) (e : leftOf c s ≡ []) where

@@ -1,4 +1,5 @@
 pub mod Member
 pub mod Lines
+pub mod Passed
 pub mod Outline
 pub mod Seen

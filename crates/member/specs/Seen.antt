@@ -40,3 +40,7 @@ pub record SeenWith (z : Seen) (a e : ℕ) (k : LineKind) (r : Seen) : Type 0 wh
   pub title : r .outline .title ≡ titleAt (z .titled) a k (z .outline .title)
   pub top : r .outline .levels .top ≡ shallower (z .outline .levels .top) (movedKind (z .titled) k)
   pub deepest : r .outline .levels .deepest ≡ deeper (z .outline .levels .deepest) (movedKind (z .titled) k)
+
+-- what is seen with lines more that are no headings, those that are not blank ending at e
+abbrev pub endedAt : Seen → ℕ → Seen
+endedAt z e = record { titled = z .titled; outline = record { end = e; title = z .outline .title; levels = z .outline .levels } }

@@ -6,7 +6,7 @@ ghost use lib.Signed.{mag};
 ghost use Rattle.heading.specs.Level.{anyPast, firstPast};
 ghost use Rattle.text.specs.Space.{isBlank};
 ghost use Rattle.shift.specs.Levels.{AreLevels};
-ghost use Rattle.member.specs.Seen.{titledBy, movedKind, titleAt, Placed, SeenWith};
+ghost use Rattle.member.specs.Seen.{titledBy, movedKind, titleAt, Placed, SeenWith, endedAt};
 ghost use Rattle.member.specs.Outline.{FoundOutline, movedKinds, ShiftBelow};
 use crate::lines;
 use crate::lines::NextLine;
@@ -127,6 +127,19 @@ fn with_line(seen: Seen, at: usize, end: usize, kind: LineKind) -> Seen
     }
 }
 
+// The outline with lines more that are no headings.
+fn ended_at(seen: Seen, end: usize) -> Seen
+    ensures { λ r. ⌜ r ≡ endedAt seen end ⌝ }
+{
+    let outline = seen.outline;
+    let title = outline.title;
+    let levels = outline.levels;
+    Seen {
+        titled: seen.titled,
+        outline: Outline { end, title, levels },
+    }
+}
+
 // Prepares a member: its lines without hand-written contents and without blank ones at the end, its title and its levels.
 pub fn prepare(s: &[u8]) -> Outlined
     ensures { λ r. ⌜ FoundOutline (now (s .entry)) r ⌝ }
@@ -144,12 +157,15 @@ pub fn prepare(s: &[u8]) -> Outlined
     };
     let mut c = lines::first();
     loop {
+        let passed = lines::pass(s, c, seen.outline.end, false);
+        let end = passed.end;
+        seen = ended_at(seen, end);
         let NextLine::Line {
             start: a,
             end: e,
             kind,
             behind,
-        } = lines::next_line(s, c)
+        } = lines::next_line(s, passed.behind)
         else {
             if seen.titled {
                 let outline = seen.outline;
@@ -157,8 +173,7 @@ pub fn prepare(s: &[u8]) -> Outlined
             }
             return Outlined::Untitled;
         };
-        let end = end_with(seen.outline.end, &s[a..e], e);
-        seen = with_line(seen, a, end, kind);
+        seen = with_line(seen, a, end_with(end, &s[a..e], e), kind);
         c = behind;
     }
 }

@@ -3,8 +3,8 @@ use Prim.Native.Nat.{suc, _-_}
 use native.Mathlib.Omega.{arith}
 use borrow.Author.Needs.{needs}
 use lib.ListN.{length}
-use Rattle.member.proofs.HeadingLaws.{line-next}
-use Rattle.member.proofs.OutlineLaws.{Outlines, outlines-none, outlines-line, outlines-titled, outlines-untitled, line-placed}
+use Rattle.member.proofs.HeadingLaws.{passed-none, passed-still, line-next}
+use Rattle.member.proofs.OutlineLaws.{Outlines, outlines-none, outlines-still, outlines-line, outlines-titled, outlines-untitled, line-placed}
 use Rattle.member.proofs.outline.prepare.Statement.{statement}
 use Rattle.member.proofs.outline.prepare.Tie as tie
 
@@ -20,8 +20,14 @@ first-requires c κs = search needs
 loop-holds : tie.Need-loop-holds Inv-loop μ-loop
 loop-holds c = outlines-none (c .before .before .args .s .now) (c .first .result) (c .first .ensures)
 
+pass-requires : tie.Need-pass-requires Inv-loop μ-loop
+pass-requires c κs = c .loop .inv .cursor
+
+ended-at-requires : tie.Need-ended-at-requires Inv-loop μ-loop
+ended-at-requires c κs = search needs
+
 next-line-requires : tie.Need-next-line-requires Inv-loop μ-loop
-next-line-requires c κs = c .loop .inv .cursor
+next-line-requires c κs = outlines-still (c .before .before .loop .inv) (c .before .pass .ensures) (c .ended-at .ensures) .cursor
 
 enum-known-a : tie.Need-enum-known-a Inv-loop μ-loop
 enum-known-a c = search needs
@@ -31,13 +37,13 @@ enum-told c = search needs
 
 returns : tie.Need-returns Inv-loop μ-loop
 returns c =
-    let i = c .before .before .before .before .before .loop .inv in
+    let i = outlines-still (c .before .before .before .before .before .before .before .loop .inv) (c .before .before .before .before .before .before .pass .ensures) (c .before .before .before .before .before .ended-at .ensures) in
     let n = rw (c .before .before .enum-told .given .1) at (c .before .before .before .before .next-line .ensures) in
     outlines-titled i n (c .before .if1 .taken)
 
 returns-2 : tie.Need-returns-2 Inv-loop μ-loop
 returns-2 c =
-    let i = c .before .before .before .before .loop .inv in
+    let i = outlines-still (c .before .before .before .before .before .before .loop .inv) (c .before .before .before .before .before .pass .ensures) (c .before .before .before .before .ended-at .ensures) in
     let n = rw (c .before .enum-told .given .1) at (c .before .before .before .next-line .ensures) in
     outlines-untitled i n (c .if1 .left)
 
@@ -67,15 +73,15 @@ with-line-requires c κs =
 
 loop-less : tie.Need-loop-less Inv-loop μ-loop
 loop-less c =
-    let i = c .before .before .before .before .before .before .before .loop .inv in
+    let i = outlines-still (c .before .before .before .before .before .before .before .before .before .loop .inv) (c .before .before .before .before .before .before .before .before .pass .ensures) (c .before .before .before .before .before .before .before .ended-at .ensures) in
     let l = rw (c .before .before .before .before .a .given .1) at (c .before .before .before .before .before .before .next-line .ensures) in
-    omega (arith, line-next (i .cursor) l)
+    omega (arith, line-next (i .cursor) l, passed-still (passed-none (c .before .before .before .before .before .before .before .before .before .loop .inv .cursor)) (c .before .before .before .before .before .before .before .before .pass .ensures) .order)
 
 loop-again : tie.Need-loop-again Inv-loop μ-loop
 loop-again c =
-    let i = c .before .before .before .before .before .before .before .loop .inv in
+    let i = outlines-still (c .before .before .before .before .before .before .before .before .before .loop .inv) (c .before .before .before .before .before .before .before .before .pass .ensures) (c .before .before .before .before .before .before .before .ended-at .ensures) in
     let l = rw (c .before .before .before .before .a .given .1) at (c .before .before .before .before .before .before .next-line .ensures) in
-    outlines-line i l (c .with-line .ensures) (c .before .end-with .ensures)
+    outlines-line i l (c .with-line .ensures) (rw (c .before .before .before .before .before .before .before .ended-at .ensures) (c .before .end-with .ensures))
 
 pub prepare-spec : {M : Type 1} → statement M
 prepare-spec =
@@ -85,6 +91,8 @@ prepare-spec =
     μ-loop
     first-requires
     loop-holds
+    pass-requires
+    ended-at-requires
     next-line-requires
     enum-known-a
     enum-told
