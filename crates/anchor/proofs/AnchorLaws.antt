@@ -16,7 +16,7 @@ use Rattle.text.specs.Space.{isSpace, isOther, lead, kept, trimStart, trimEnd, 
 use Rattle.text.specs.Pattern.{startsWith, equals}
 use Rattle.text.proofs.BytesLaws.{or-left, or-right, after-none}
 use Rattle.text.specs.Ascii.{lower}
-use Rattle.anchor.specs.Anchor.{shows, markupAfter, plainFrom, isKept, anchorOf, plainEndFrom}
+use Rattle.anchor.specs.Anchor.{shows, markupAfter, plainFrom, isKept, anchorOf, plainEndFrom, stirred, numberFrom}
 use Rattle.anchor.specs.declared.Markup.{Markup}
 
 -- whether a byte is text and no space byte
@@ -208,7 +208,29 @@ plain-hidden : (m : Markup) (x : ℕ) (s : List ℕ) → shows m x ≡ false →
 unfolding plainFrom
 plain-hidden m x s e = rw e
 
-part-cons : (t : List ℕ) (i e : ℕ) → i < e → e ≤ length t → part i e t ≡ getD t i 0 ∷ part (i + 1) e t
+-- what a byte adds to an anchor's number
+module _ (m : Markup) (x : ℕ) (s : List ℕ) (n : ℕ) where
+  abbrev Adds : ℕ → Type 0
+  Adds r = numberFrom n (anchorOf (plainFrom m (x ∷ s))) ≡ numberFrom r (anchorOf (plainFrom (markupAfter m x) s))
+
+  shown-number : shows m x ≡ true → numberFrom n (anchorOf (plainFrom m (x ∷ s))) ≡ numberFrom n (anchorOf (x ∷ plainFrom (markupAfter m x) s))
+  shown-number p = ap (λ (a : List ℕ). numberFrom n (anchorOf a)) (plain-shown m x s p)
+
+  pub number-kept : shows m x ≡ true → isKept x ≡ true → Adds (stirred n (lower x))
+  unfolding numberFrom
+  number-kept p q = shown-number p ∙ ap (numberFrom n) (anchor-keeps x (plainFrom (markupAfter m x) s) q)
+
+  pub number-space : shows m x ≡ true → isKept x ≡ false → x ≡ 0x20 → Adds (stirred n 0x2D)
+  unfolding numberFrom
+  number-space p q r = shown-number p ∙ ap (numberFrom n) (anchor-else x (plainFrom (markupAfter m x) s) q) ∙ rw (eq-eqb x 0x20 r)
+
+  pub number-other : shows m x ≡ true → isKept x ≡ false → (x ≡ 0x20 → ⊥) → Adds n
+  number-other p q r = shown-number p ∙ ap (numberFrom n) (anchor-else x (plainFrom (markupAfter m x) s) q) ∙ rw (ne-eqb x 0x20 r)
+
+  pub number-hidden : shows m x ≡ false → Adds n
+  number-hidden p = ap (λ (a : List ℕ). numberFrom n (anchorOf a)) (plain-hidden m x s p)
+
+pub part-cons : (t : List ℕ) (i e : ℕ) → i < e → e ≤ length t → part i e t ≡ getD t i 0 ∷ part (i + 1) e t
 part-cons t i e h k =
     let j : e - i ≡ suc (e - (i + 1)) = omega arith in
     let l : i < length t = omega arith in

@@ -1,9 +1,10 @@
 // Anchors: the bytes of a heading text's anchor one after the other, without a buffer.
+ghost use mathlib.Core.List.{List, _∷_};
 ghost use mathlib.Core.Path.{_≡_};
-ghost use Prim.Native.Nat.{_≤_, _<_};
+ghost use Prim.Native.Nat.{ℕ, _≤_, _<_};
 ghost use lib.ListN.{length};
 ghost use Rattle.text.specs.Pattern.{equals as equalsTo};
-ghost use Rattle.anchor.specs.Anchor.{shows as showsIn, markupAfter, isMark, isKept, slug, anchorFrom, CursorWithin, NextByte, plainEnd, stirred, anchorNumber};
+ghost use Rattle.anchor.specs.Anchor.{shows as showsIn, markupAfter, isMark, isKept, slug, anchorFrom, CursorWithin, NextByte, plainEnd, plainFrom, anchorOf, stirred, numberFrom, anchorNumber};
 use text::ascii;
 use text::space;
 
@@ -200,18 +201,39 @@ fn stir(n: usize, b: u8) -> usize
     (n + b as usize) * 6700417 % 0x100_0000_0000
 }
 
+// The same with a byte of a heading's text that stands in this markup, which adds one byte to the anchor or none.
+fn stir_in(n: usize, markup: Markup, b: u8) -> usize
+    requires { ⌜ n < 0x100_0000_0000 ⌝ }
+    ensures { λ r. ⌜ ((s : List ℕ) → numberFrom n (anchorOf (plainFrom markup (b ∷ s))) ≡ numberFrom r (anchorOf (plainFrom (markupAfter markup b) s))) ⌝ }
+    ensures { λ r. ⌜ r < 0x100_0000_0000 ⌝ }
+{
+    if !shows(markup, b) {
+        return n;
+    }
+    if is_kept(b) {
+        return stir(n, ascii::lower(b));
+    }
+    if b == 0x20 {
+        return stir(n, b'-');
+    }
+    n
+}
+
 // A number below 2^40 made of the bytes of a heading text's anchor: equal anchors have equal numbers.
 pub fn number_of(text: &[u8]) -> usize
     ensures { λ r. ⌜ r ≡ anchorNumber (slug (now (text .entry))) ⌝ }
     ensures { λ r. ⌜ r < 0x100_0000_0000 ⌝ }
 {
+    let c = start(text);
+    let end = c.end;
+    let mut markup = c.markup;
     let mut n = 0;
-    let mut c = start(text);
-    loop {
-        let AnchorByte::Byte(b, d) = next(text, c) else {
-            return n;
-        };
-        n = stir(n, b);
-        c = d;
+    let mut i = c.at;
+    while i < end {
+        let b = text[i];
+        n = stir_in(n, markup, b);
+        markup = markup_after(markup, b);
+        i += 1;
     }
+    n
 }

@@ -1,5 +1,5 @@
 -- The table of marks, which spares comparisons, and what the functions find. Nothing here is document 01's: functions promise it.
-use Prim.Native.Nat.{ℕ, _≤_, _/_, _%_}
+use Prim.Native.Nat.{ℕ, _+_, _-_, _*_, _≤_, _/_, _%_}
 use mathlib.Core.Path.{_≡_}
 use mathlib.Core.Bool.{Bool, true, false}
 use mathlib.Core.Logic.{_⊎_}
@@ -16,13 +16,20 @@ use Rattle.member.specs.Member.{Prepared}
 use Rattle.shared.specs.declared.Shared.{Shared}
 use Rattle.shared.specs.declared.Shared.the-variants.{Nowhere, At}
 
--- 255 stands where several files have a mark
+-- 255 stands where there are several marks
 abbrev pub MANY : ℕ
 MANY = 255
 
--- a place of the table tells of a file
+-- the mark of a file, 1 to 64, for an anchor's number; and what marks of one number have in common
+abbrev pub markOf : ℕ → ℕ → ℕ
+markOf number file = file + 64 * (number % 3)
+
+abbrev pub printOf : ℕ → ℕ
+printOf mark = (mark - 1) / 64
+
+-- a place of the table has a mark, or several
 abbrev pub Holds : List ℕ → ℕ → ℕ → Type 0
-Holds table p file = (getD table p 0 ≡ MANY) ⊎ (getD table p 0 ≡ file)
+Holds table p mark = (getD table p 0 ≡ MANY) ⊎ (getD table p 0 ≡ mark)
 
 -- the three places of a number in a table of n bytes
 abbrev pub placeOne : ℕ → ℕ → ℕ
@@ -36,22 +43,22 @@ placeThree number n = number % 16777213 % n
 
 -- all three tell of a file
 pub record Marked (table : List ℕ) (number file : ℕ) : Type 0 where
-  pub one : Holds table (placeOne number (length table)) file
-  pub two : Holds table (placeTwo number (length table)) file
-  pub three : Holds table (placeThree number (length table)) file
+  pub one : Holds table (placeOne number (length table)) (markOf number file)
+  pub two : Holds table (placeTwo number (length table)) (markOf number file)
+  pub three : Holds table (placeThree number (length table)) (markOf number file)
 
--- the mark of another file, or of several, stands at a place
+-- another mark, or several, stand at a place
 abbrev pub HasOther : List ℕ → ℕ → ℕ → Type 0
-HasOther table p file = (getD table p 0 ≡ 0 → ⊥) × (getD table p 0 ≡ file → ⊥)
+HasOther table p mark = (getD table p 0 ≡ 0 → ⊥) × (getD table p 0 ≡ mark → ⊥)
 
--- what marking a place leaves: what the table told it tells still; the place tells of the file; where the answer is false it told of no other, and where it is true it told of one; no other file's mark comes in
-pub record Mark (table after : List ℕ) (at file : ℕ) (other : Bool) : Type 0 where
+-- what marking a place leaves: what the table told it tells still; the place has the mark; where the answer is false it had no other of that print, and where it is true it had another; no other mark comes in
+pub record Mark (table after : List ℕ) (at mark : ℕ) (other : Bool) : Type 0 where
   pub long : length after ≡ length table
-  pub still : (p f : ℕ) → 1 ≤ f → Holds table p f → Holds after p f
-  pub own : Holds after at file
-  pub alone : other ≡ false → (f : ℕ) → 1 ≤ f → Holds table at f → f ≡ file
-  pub spared : other ≡ true → HasOther table at file
-  pub apart : (p : ℕ) → HasOther after p file → HasOther table p file
+  pub still : (p m : ℕ) → 1 ≤ m → Holds table p m → Holds after p m
+  pub own : Holds after at mark
+  pub alone : other ≡ false → (m : ℕ) → 1 ≤ m → printOf m ≡ printOf mark → Holds table at m → m ≡ mark
+  pub spared : other ≡ true → HasOther table at mark
+  pub apart : (p : ℕ) → HasOther after p mark → HasOther table p mark
 
 -- the same of a number
 pub record Marks (table after : List ℕ) (number file : ℕ) (maybe : Bool) : Type 0 where
@@ -59,7 +66,8 @@ pub record Marks (table after : List ℕ) (number file : ℕ) (maybe : Bool) : T
   pub still : (n f : ℕ) → 1 ≤ f → Marked table n f → Marked after n f
   pub own : Marked after number file
   pub alone : maybe ≡ false → (f : ℕ) → 1 ≤ f → f ≤ 64 → Marked table number f → f ≡ file
-  pub spared : maybe ≡ true → HasOther table (placeOne number (length table)) file × (HasOther table (placeTwo number (length table)) file × HasOther table (placeThree number (length table)) file)
+  pub spared : maybe ≡ true → HasOther table (placeOne number (length table)) (markOf number file)
+      × (HasOther table (placeTwo number (length table)) (markOf number file) × HasOther table (placeThree number (length table)) (markOf number file))
 
 -- the table tells of each heading of lines, and of members
 abbrev pub TellsKind : List ℕ → ℕ → LineKind → List ℕ → Type 0
