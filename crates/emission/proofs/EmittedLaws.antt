@@ -125,7 +125,7 @@ module _ (f : List ℕ → List ℕ) (z : ℤ) where
   leftText zero titled ts = join LF (leftLines titled ts)
   leftText (suc n) titled ts = led (leftLines titled ts)
 
-  abbrev newLine : Bool → Told → List ℕ
+  abbrev pub newLine : Bool → Told → List ℕ
   newLine titled t = emittedLine f z (record { kind = kindAfter titled (t .kind); bytes = t .bytes })
 
   lines-next : (titled : Bool) (t : Told) (ts : List Told) → leftLines titled (t ∷ ts) ≡ newLine titled t ∷ leftLines (titled || isTitle (t .kind)) ts
@@ -142,99 +142,15 @@ module _ (f : List ℕ → List ℕ) (z : ℤ) where
       go (Heading n a e) p = title n a e (eqb n 1) refl p
       go Other p = rw p
 
-  text-next : (n : ℕ) (titled : Bool) (t : Told) (ts : List Told)
+  pub text-next : (n : ℕ) (titled : Bool) (t : Told) (ts : List Told)
       → leftText n titled (t ∷ ts) ≡ breakBefore n ++ (newLine titled t ++ leftText (n + 1) (titled || isTitle (t .kind)) ts)
   unfolding led
   text-next zero titled t ts = ap (join LF) (lines-next titled t ts) ∙ join-led (newLine titled t) (leftLines (titled || isTitle (t .kind)) ts)
   text-next (suc n) titled t ts = ap led (lines-next titled t ts) ∙ rw (add-one (suc n))
 
-  text-none : (n : ℕ) (titled : Bool) → leftText n titled [] ≡ []
+  pub text-none : (n : ℕ) (titled : Bool) → leftText n titled [] ≡ []
   unfolding led join movable
   text-none zero true = refl
   text-none zero false = refl
   text-none (suc n) true = refl
   text-none (suc n) false = refl
-
--- the lines before a cursor are put
-pub record Putting (f : List ℕ → List ℕ) (z : ℤ) (source : Source) (room : Room) (c w v : List ℕ) (at : ℕ) (d : LineCursor) (titled : Bool) : Type 0 where
-  pub within : CursorIn d (sourceText source c w)
-  pub reached : Reached room (emittedText f z (sourceText source c w)) w v at (leftText f z (d .line) titled (leftOf d (sourceText source c w)))
-
-module _ {source : Source} {room : Room} {c w : List ℕ} (able : Able source room c w) where
-  pub putting-start : (f : List ℕ → List ℕ) (z : ℤ) → Putting f z source room c w w (room .at) atFirst false
-  putting-start f z = record {
-    within = (omega arith, omega arith);
-    reached = rw (lines-on (sourceText source c w) 0 (omega arith)) (reached-start room (emittedText f z (sourceText source c w)) w (able .below));
-  }
-
-  module _ {f : List ℕ → List ℕ} {z : ℤ} {v : List ℕ} {at : ℕ} {d : LineCursor} {titled : Bool} (p : Putting f z source room c w v at d titled) where
-    same : sourceText source c v ≡ sourceText source c w
-    same = source-same able (p .reached)
-
-    pub cursor-in : CursorIn d (sourceText source c v)
-    cursor-in = subst (λ (s : List ℕ). CursorIn d s) (sym same) (p .within)
-
-    -- no line is left
-    pub putting-end : leftOf d (sourceText source c v) ≡ [] → Written room (emittedText f z (sourceText source c w)) w v at
-    putting-end h =
-        let e : leftText f z (d .line) titled (leftOf d (sourceText source c w)) ≡ [] =
-        ap (leftText f z (d .line) titled) (subst (λ (s : List ℕ). leftOf d s ≡ []) same h) ∙ text-none f z (d .line) titled in
-        reached-end (subst (λ (x : List ℕ). Reached room (emittedText f z (sourceText source c w)) w v at x) e (p .reached))
-
-    -- a line is left: what stands before it is put, and then the line
-    module _ (a e : ℕ) (k : LineKind) (b : LineCursor) (h : IsLine (sourceText source c v) d a e k b) where
-      line : IsLine (sourceText source c w) d a e k b
-      line = subst (λ (s : List ℕ). IsLine s d a e k b) same h
-
-      pub line-bounds : (a ≤ e) × (source .start + e ≤ source .end)
-      line-bounds = (line .forward, omega (arith, line .within, source-length able, able .inside .0))
-
-      pub line-kind : KindIn (e - a) (kindAfter titled k)
-      line-kind =
-          kind-kept (e - a) titled k (rw (line .kind)
-          (kind-in (d .state .fence) (d .state .comment) (part a e (sourceText source c w)) (e - a) (part-full (sourceText source c w) a e (line .within))))
-
-      pub line-less : (d .at < b .at) × (b .at ≤ suc (source .end - source .start))
-      line-less = let n : b .at ≡ e + 1 = ap (λ (x : LineCursor). x .at) (line .after) in (omega (arith, line .order, line .forward), omega (arith, line .within, source-length able))
-
-      abbrev new : List ℕ
-      new = emittedLine f z (record { kind = kindAfter titled k; bytes = part a e (sourceText source c w) })
-
-      abbrev left : List ℕ
-      left = leftText f z (b .line) (titled || isTitle k) (leftOf b (sourceText source c w))
-
-      line-next : leftText f z (d .line) titled (leftOf d (sourceText source c w)) ≡ breakBefore (d .line) ++ (new ++ left)
-      line-next =
-          let n : b .line ≡ d .line + 1 = ap (λ (x : LineCursor). x .line) (line .after) in
-          ap (leftText f z (d .line) titled) (line .left)
-          ∙ text-next f z (d .line) titled (record { kind = k; bytes = part a e (sourceText source c w) }) (leftOf b (sourceText source c w))
-          ∙ ap (λ (i : ℕ). breakBefore (d .line) ++ (new ++ leftText f z i (titled || isTitle k) (leftOf b (sourceText source c w)))) (sym n)
-
-      pub break-over : room .limit < at + length (breakBefore (d .line)) → room .limit < room .at + length (emittedText f z (sourceText source c w))
-      break-over q = reached-over (p .reached) (breakBefore (d .line)) (new ++ left) line-next q
-
-      module _ (u : List ℕ) (m : ℕ) (q : Written (roomAt room at) (breakBefore (d .line)) v u m) where
-        pub broken : Reached room (emittedText f z (sourceText source c w)) w u m (new ++ left)
-        broken = reached-next (p .reached) (breakBefore (d .line)) (new ++ left) line-next u m q
-
-        module _ {g : List ℕ → List ℕ} (is : g ≡ f) {moved : LineKind} (kind : moved ≡ kindAfter titled k) {y : ℤ} (shift : y ≡ z) where
-          abbrev put-now : List ℕ
-          put-now = emittedLine g y (record { kind = moved; bytes = part a e (sourceText source c u) })
-
-          now-new : put-now ≡ new
-          now-new =
-              ap (λ (x : List ℕ → List ℕ). emittedLine x y (record { kind = moved; bytes = part a e (sourceText source c u) })) is
-              ∙ ap (λ (x : ℤ). emittedLine f x (record { kind = moved; bytes = part a e (sourceText source c u) })) shift
-              ∙ ap (λ (x : LineKind). emittedLine f z (record { kind = x; bytes = part a e (sourceText source c u) })) kind
-              ∙ ap (λ (x : List ℕ). emittedLine f z (record { kind = kindAfter titled k; bytes = part a e x })) (source-same able broken)
-
-          pub line-over : room .limit < m + length put-now → room .limit < room .at + length (emittedText f z (sourceText source c w))
-          line-over j = reached-over broken new left refl (subst (λ (x : List ℕ). room .limit < m + length x) now-new j)
-
-          pub putting-on : (t : List ℕ) (n : ℕ) → Written (roomAt room m) put-now u t n → Putting f z source room c w t n b (titled || isTitle k)
-          putting-on t n j = record {
-            within = let i : b .at ≡ e + 1 = ap (λ (x : LineCursor). x .at) (line .after) in
-                let o : b .line ≡ d .line + 1 = ap (λ (x : LineCursor). x .line) (line .after) in
-                (omega (arith, p .within, line .order, line .forward), omega (arith, line .within));
-            reached = reached-next broken new left refl t n (subst (λ (x : List ℕ). Written (roomAt room m) x u t n) now-new j);
-          }

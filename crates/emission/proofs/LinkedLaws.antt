@@ -112,7 +112,7 @@ module _ {source : Source} {room : Room} {c w : List ℕ} (able : Able source ro
         reached-last level-put u r (subst (λ (x : List ℕ). Wrote (roomAt room k) x v u r) s t)
 
 -- what stands before a line's text, and before a line
-nothing-put : (room : Room) (w : List ℕ) → room .at ≤ room .limit → Written room [] w w (room .at)
+pub nothing-put : (room : Room) (w : List ℕ) → room .at ≤ room .limit → Written room [] w w (room .at)
 nothing-put room w h = record { place = omega arith; below = h; wrote = refl }
 
 module _ (room : Room) (w : List ℕ) (n : ℕ) where

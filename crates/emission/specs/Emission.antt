@@ -1,9 +1,10 @@
 -- A member's lines as they are put. Nothing here is document 01's: functions promise it, and the laws of `proofs/` tie it to what is emitted.
-use Prim.Native.Nat.{ℕ, zero, suc}
+use Prim.Native.Nat.{ℕ, zero, suc, _-_}
 use mathlib.Core.Bool.{Bool, false, cond}
-use mathlib.Core.List.{List, [], _∷_, map}
-use lib.Dec.{eqb}
+use mathlib.Core.List.{List, [], _∷_, _++_, map}
+use lib.Dec.{eqb, leb}
 use lib.IntN.{ℤ}
+use Rattle.text.specs.Bytes.{part}
 use Rattle.text.specs.Lines.{LF}
 use Rattle.text.specs.Split.{join}
 use Rattle.heading.specs.Level.{headingLine}
@@ -12,6 +13,7 @@ use Rattle.heading.specs.declared.walk.LineKind.the-variants.{Quoted, Heading, 
 use Rattle.shift.specs.Shift.{Told, movedLine}
 use Rattle.member.specs.Member.{movable}
 use Rattle.member.specs.Lines.{keptLines}
+use Rattle.member.specs.declared.lines.LineCursor.{LineCursor}
 use Rattle.emission.specs.Emit.{rewriteLine}
 
 -- what a line becomes, each link's target t being f t; and the lines that a member keeps, the first H1 being no heading to be moved
@@ -42,3 +44,7 @@ breakBefore (suc n) = LF ∷ []
 abbrev pub levelOf : ℕ → List ℕ
 levelOf zero = []
 levelOf (suc n) = headingLine (suc n) []
+
+-- the lines between two cursors as they stand in s, with what stands before them
+abbrev pub blockText : List ℕ → LineCursor → LineCursor → List ℕ
+blockText s c d = cond (leb (d .line) (c .line)) [] (breakBefore (c .line) ++ part (c .at) (d .at - 1) s)

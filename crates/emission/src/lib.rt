@@ -1,6 +1,7 @@
 // A member's lines put behind the text so far: headings moved but for the title, links outside fences rewritten.
 ghost use mathlib.Core.Path.{_≡_};
-ghost use Prim.Native.Nat.{_+_, _-_, _≤_};
+ghost use mathlib.Core.List.{_++_};
+ghost use Prim.Native.Nat.{suc, _+_, _-_, _≤_, _<_};
 ghost use lib.ListN.{length};
 ghost use lib.Signed.{mag};
 ghost use Rattle.text.specs.Bytes.{part};
@@ -10,9 +11,10 @@ ghost use Rattle.put.specs.Put.{sourceText, Able, Wrote};
 ghost use Rattle.put.specs.NewText.{KindIn};
 ghost use Rattle.members.specs.Members.{AllStand};
 ghost use Rattle.target.specs.Titles.{titlesIn};
-ghost use Rattle.emission.specs.Emission.{emittedLine, emittedText, isTitle, kindAfter, breakBefore, levelOf};
+ghost use Rattle.emission.specs.Emission.{emittedLine, emittedText, isTitle, kindAfter, breakBefore, levelOf, blockText};
 use heading::walk::LineKind;
 use link::links::NextLink;
+use member::lines::LineCursor;
 use member::lines::NextLine;
 use put::Put;
 use put::Room;
@@ -162,7 +164,77 @@ fn put_break(n: usize, room: Room, work: &mut [u8]) -> Put
     Put::To(at + 1)
 }
 
-// The lines that a member keeps of a source, its file being in a directory.
+// The lines between two cursors as they stand, with what stands before them; nothing where there are none.
+fn put_block(
+    contents: &[u8],
+    source: Source,
+    from: LineCursor,
+    to: LineCursor,
+    room: Room,
+    work: &mut [u8],
+) -> Put
+    requires { ⌜ Able source room (now contents) (now work) × ((from .at ≤ to .at) × ((to .at ≤ suc (source .end - source .start)) × (from .line < to .line → from .at < to .at))) ⌝ }
+    ensures { λ r. ⌜ Wrote room (blockText (sourceText source (now (contents .entry)) (now (work .entry))) from to) (now (work .entry)) (now (work .exit)) r ⌝ }
+{
+    if to.line <= from.line {
+        return Put::To(room.at);
+    }
+    let limit = room.limit;
+    let Put::To(at) = put_break(from.line, room, work) else {
+        return Put::Over;
+    };
+    put::put_part(
+        contents,
+        source,
+        from.at,
+        to.at - 1,
+        Room { at, limit },
+        work,
+    )
+}
+
+// The next line, of a kind, with what stands before it where it has n lines before it.
+fn put_next(
+    index: &[u8],
+    contents: &[u8],
+    url: &[u8],
+    set: &[usize; 704],
+    count: usize,
+    source: Source,
+    kind: LineKind,
+    start: usize,
+    end: usize,
+    n: usize,
+    shift: i32,
+    dir: &[u8],
+    room: Room,
+    work: &mut [u8],
+) -> Put
+    requires { ⌜ Able source room (now contents) (now work) × (AllStand (now index) (length (now contents)) (room .limit) (length (now work)) (now set) count × ((start ≤ end) × ((source .start + end ≤ source .end) × (KindIn (end - start) kind × (mag shift ≤ 7))))) ⌝ }
+    ensures { λ r. ⌜ Wrote room (breakBefore n ++ emittedLine (rewriteTarget (titlesIn (now (index .entry)) (now (contents .entry)) (now (work .entry)) (now (set .entry)) count) (now (url .entry)) (now (dir .entry))) shift (record { kind = kind; bytes = part start end (sourceText source (now (contents .entry)) (now (work .entry))) })) (now (work .entry)) (now (work .exit)) r ⌝ }
+{
+    let limit = room.limit;
+    let Put::To(at) = put_break(n, room, work) else {
+        return Put::Over;
+    };
+    put_line(
+        index,
+        contents,
+        url,
+        set,
+        count,
+        source,
+        kind,
+        start,
+        end,
+        shift,
+        dir,
+        Room { at, limit },
+        work,
+    )
+}
+
+// The lines that a member keeps of a source, its file being in a directory. Those that neither change nor have a link are put as a block.
 pub fn put_lines(
     index: &[u8],
     contents: &[u8],
@@ -183,20 +255,23 @@ pub fn put_lines(
     let mut c = member::lines::first();
     let mut titled = false;
     loop {
+        let passed = read::unlinked_in(contents, work, source, c);
+        let d = passed.behind;
+        let Put::To(m) = put_block(contents, source, c, d, Room { at, limit }, work) else {
+            return Put::Over;
+        };
         let NextLine::Line {
             start: a,
             end: e,
             kind,
             behind,
-        } = read::line_in(contents, work, source, c)
+        } = read::line_in(contents, work, source, d)
         else {
-            return Put::To(at);
-        };
-        let Put::To(m) = put_break(c.line, Room { at, limit }, work) else {
-            return Put::Over;
+            return Put::To(m);
         };
         let moved = kind_after(titled, kind);
-        let Put::To(n) = put_line(
+        let room = Room { at: m, limit };
+        let Put::To(n) = put_next(
             index,
             contents,
             url,
@@ -206,9 +281,10 @@ pub fn put_lines(
             moved,
             a,
             e,
+            d.line,
             shift,
             dir,
-            Room { at: m, limit },
+            room,
             work,
         ) else {
             return Put::Over;

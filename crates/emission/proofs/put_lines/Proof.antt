@@ -1,5 +1,4 @@
 -- `emission::put_lines` meets its contract. The invariant: the lines before the cursor are put. Assumes nothing.
--- `emission::put_lines` meets its contract. The invariant: the lines before the cursor are put. Assumes nothing.
 use Prim.Native.Nat.{_+_, _-_}
 use native.Mathlib.Omega.{arith}
 use mir.Syntax.{w32}
@@ -10,7 +9,7 @@ use Rattle.link.specs.Target.{rewriteTarget}
 use Rattle.put.proofs.PutLaws.{reached-length, able-on, able-read}
 use Rattle.target.specs.Titles.{titlesIn}
 use Rattle.emission.proofs.LinkedLaws.{all-on, rewriting-same}
-use Rattle.emission.proofs.EmittedLaws.{Putting, putting-start, cursor-in, putting-end, line-bounds, line-kind, line-less, break-over, broken, line-over, putting-on}
+use Rattle.emission.proofs.PuttingLaws.{Putting, putting-start, cursor-in, putting-end, block-bounds, block-over, putting-block, line-bounds, line-kind, line-less, line-over, putting-on}
 use Rattle.emission.proofs.put_lines.Statement.{statement}
 use Rattle.emission.proofs.put_lines.Tie as tie
 
@@ -26,49 +25,81 @@ first-requires : tie.Need-first-requires Inv-loop μ-loop
 first-requires c κs = search needs
 
 loop-holds : tie.Need-loop-holds Inv-loop μ-loop
-loop-holds c = let s = c .before .before .before .before .before .before in
-    rw (c .first .ensures, (shift-kept (s .args .shift) (s .pre .1 .1))) (putting-start (s .pre .0) (rewriteTarget (titlesIn (s .args .index .now) (s .args .contents .now) (s .args .work .now) (s .args .set .now) (s .args .count)) (s .args .url .now) (s .args .dir .now)) (s .args .shift))
+loop-holds c =
+    let s = c .before .before .before .before .before .before in
+    rw (c .first .ensures, (shift-kept (s .args .shift) (s .pre .1 .1)))
+    (putting-start (s .pre .0) (rewriteTarget (titlesIn (s .args .index .now) (s .args .contents .now) (s .args .work .now) (s .args .set .now) (s .args .count)) (s .args .url .now) (s .args .dir .now)) (s .args .shift))
 
-line-in-requires : tie.Need-line-in-requires Inv-loop μ-loop
-line-in-requires c κs = (able-read (c .before .before .before .before .before .before .before .before .pre .0) (c .before .loop .inv .reached), cursor-in (c .before .before .before .before .before .before .before .before .pre .0) (c .before .loop .inv))
+unlinked-in-requires : tie.Need-unlinked-in-requires Inv-loop μ-loop
+unlinked-in-requires c κs = let s = c .before .before .before .before .before .before .before .before in (able-read (s .pre .0) (c .before .loop .inv .reached), cursor-in (s .pre .0) (c .before .loop .inv))
 
-enum-known-a : tie.Need-enum-known-a Inv-loop μ-loop
-enum-known-a c = search needs
+put-block-requires : tie.Need-put-block-requires Inv-loop μ-loop
+put-block-requires c κs =
+    let s = c .before .before .before .before .before .before .before .before .before .before .before in
+    let z = shift-kept (s .args .shift) (s .pre .1 .1) in
+    let i = rw z at (c .before .before .before .before .loop .inv) in
+    let h = c .before .before .unlinked-in .ensures in
+    (able-on (s .pre .0) (i .reached), block-bounds (s .pre .0) i h)
+
+enum-known-m : tie.Need-enum-known-m Inv-loop μ-loop
+enum-known-m c = search needs
 
 enum-told : tie.Need-enum-told Inv-loop μ-loop
 enum-told c = search needs
 
 same-length : tie.Need-same-length Inv-loop μ-loop
-same-length c = omega (arith, reached-length (c .before .before .before .before .loop .inv .reached))
+same-length c = omega (arith, reached-length (c .before .before .before .before .before .before .before .before .before .loop .inv .reached), c .before .before .before .before .put-block .kept)
 
 returns : tie.Need-returns Inv-loop μ-loop
-returns c = let s = c .before .before .before .before .before .before .before .before .before .before .before in
-    putting-end (s .pre .0) (rw (shift-kept (s .args .shift) (s .pre .1 .1)) at (c .before .before .before .before .loop .inv)) (rw (c .enum-told .given .1) at (c .before .before .line-in .ensures))
+returns c =
+    let s = c .before .before .before .before .before .before .before .before .before .before .before .before .before .before .before .before in
+    let z = shift-kept (s .args .shift) (s .pre .1 .1) in
+    let i = rw z at (c .before .before .before .before .before .before .before .before .before .loop .inv) in
+    let h = c .before .before .before .before .before .before .before .unlinked-in .ensures in
+    block-over (s .pre .0) i h (rw (c .enum-told .given .1) at (c .before .before .before .before .put-block .ensures))
 
-put-break-requires : tie.Need-put-break-requires Inv-loop μ-loop
-put-break-requires c κs = let o = able-on (c .before .before .before .before .before .before .before .before .before .before .before .before .before .pre .0) (c .before .before .before .before .before .before .loop .inv .reached) in (o .below, o .fits)
+line-in-requires : tie.Need-line-in-requires Inv-loop μ-loop
+line-in-requires c κs =
+    let s = c .before .before .before .before .before .before .before .before .before .before .before .before .before .before .before .before .before .before in
+    let z = shift-kept (s .args .shift) (s .pre .1 .1) in
+    let i = rw z at (c .before .before .before .before .before .before .before .before .before .before .before .loop .inv) in
+    let h = c .before .before .before .before .before .before .before .before .before .unlinked-in .ensures in
+    let b = putting-block (s .pre .0) i h _ _ (rw (c .before .before .m .given .1) at (c .before .before .before .before .before .before .put-block .ensures)) in
+    (able-read (s .pre .0) (b .reached), cursor-in (s .pre .0) b)
 
-enum-known-m : tie.Need-enum-known-m Inv-loop μ-loop
-enum-known-m c = search needs
+enum-known-a : tie.Need-enum-known-a Inv-loop μ-loop
+enum-known-a c = search needs
 
 enum-told-2 : tie.Need-enum-told-2 Inv-loop μ-loop
 enum-told-2 c = search needs
 
 same-length-2 : tie.Need-same-length-2 Inv-loop μ-loop
-same-length-2 c = omega (arith, reached-length (c .before .before .before .before .before .before .before .before .before .before .before .loop .inv .reached), c .before .before .before .before .put-break .kept)
+same-length-2 c = omega (arith, reached-length (c .before .before .before .before .before .before .before .before .before .before .before .before .before .before .loop .inv .reached), c .before .before .before .before .before .before .before .before .before .put-block .kept)
 
 returns-2 : tie.Need-returns-2 Inv-loop μ-loop
-returns-2 c = let s = c .before .before .before .before .before .before .before .before .before .before .before .before .before .before .before .before .before .before in
-    break-over (s .pre .0) (rw (shift-kept (s .args .shift) (s .pre .1 .1)) at (c .before .before .before .before .before .before .before .before .before .before .before .loop .inv)) (c .before .before .before .before .before .before .before .a .given .0 .0) (c .before .before .before .before .before .before .before .a .given .0 .1 .0) (c .before .before .before .before .before .before .before .a .given .0 .1 .1 .0) (c .before .before .before .before .before .before .before .a .given .0 .1 .1 .1 .0) (rw (c .before .before .before .before .before .before .before .a .given .1) at (c .before .before .before .before .before .before .before .before .before .line-in .ensures)) (rw (c .enum-told2 .given .1) at (c .before .before .before .before .put-break .ensures))
+returns-2 c =
+    let s = c .before .before .before .before .before .before .before .before .before .before .before .before .before .before .before .before .before .before .before .before .before in
+    let z = shift-kept (s .args .shift) (s .pre .1 .1) in
+    let i = rw z at (c .before .before .before .before .before .before .before .before .before .before .before .before .before .before .loop .inv) in
+    let h = c .before .before .before .before .before .before .before .before .before .before .before .before .unlinked-in .ensures in
+    let b = putting-block (s .pre .0) i h _ _ (rw (c .before .before .before .before .before .m .given .1) at (c .before .before .before .before .before .before .before .before .before .put-block .ensures)) in
+    putting-end (s .pre .0) b (rw (c .enum-told2 .given .1) at (c .before .before .line-in .ensures))
 
 kind-after-requires : tie.Need-kind-after-requires Inv-loop μ-loop
 kind-after-requires c κs = search needs
 
-put-line-requires : tie.Need-put-line-requires Inv-loop μ-loop
-put-line-requires c κs = let s = c .before .before .before .before .before .before .before .before .before .before .before .before .before .before .before .before .before .before .before .before .before in
-    let b = line-bounds (s .pre .0) (rw (shift-kept (s .args .shift) (s .pre .1 .1)) at (c .before .before .before .before .before .before .before .before .before .before .before .before .before .before .loop .inv)) (c .before .before .before .before .before .before .before .before .before .before .a .given .0 .0) (c .before .before .before .before .before .before .before .before .before .before .a .given .0 .1 .0) (c .before .before .before .before .before .before .before .before .before .before .a .given .0 .1 .1 .0) (c .before .before .before .before .before .before .before .before .before .before .a .given .0 .1 .1 .1 .0) (rw (c .before .before .before .before .before .before .before .before .before .before .a .given .1) at (c .before .before .before .before .before .before .before .before .before .before .before .before .line-in .ensures)) in
-    let p = broken (s .pre .0) (rw (shift-kept (s .args .shift) (s .pre .1 .1)) at (c .before .before .before .before .before .before .before .before .before .before .before .before .before .before .loop .inv)) (c .before .before .before .before .before .before .before .before .before .before .a .given .0 .0) (c .before .before .before .before .before .before .before .before .before .before .a .given .0 .1 .0) (c .before .before .before .before .before .before .before .before .before .before .a .given .0 .1 .1 .0) (c .before .before .before .before .before .before .before .before .before .before .a .given .0 .1 .1 .1 .0) (rw (c .before .before .before .before .before .before .before .before .before .before .a .given .1) at (c .before .before .before .before .before .before .before .before .before .before .before .before .line-in .ensures)) (c .before .before .before .before .before .before .before .put-break .last .1 .1 .0) (c .before .before .before .m .given .0 .0) (rw (c .before .before .before .m .given .1) at (c .before .before .before .before .before .before .before .put-break .ensures)) in
-    (able-on (s .pre .0) {at = c .before .before .before .m .given .0 .0} p, (all-on (s .args .contents .now) (s .pre .1 .0) p, (b .0, (b .1, (rw (c .before .kind-after .ensures) (line-kind (s .pre .0) (rw (shift-kept (s .args .shift) (s .pre .1 .1)) at (c .before .before .before .before .before .before .before .before .before .before .before .before .before .before .loop .inv)) (c .before .before .before .before .before .before .before .before .before .before .a .given .0 .0) (c .before .before .before .before .before .before .before .before .before .before .a .given .0 .1 .0) (c .before .before .before .before .before .before .before .before .before .before .a .given .0 .1 .1 .0) (c .before .before .before .before .before .before .before .before .before .before .a .given .0 .1 .1 .1 .0) (rw (c .before .before .before .before .before .before .before .before .before .before .a .given .1) at (c .before .before .before .before .before .before .before .before .before .before .before .before .line-in .ensures))), rw (shift-kept (s .args .shift) (s .pre .1 .1)) (s .pre .1 .1))))))
+put-next-requires : tie.Need-put-next-requires Inv-loop μ-loop
+put-next-requires c κs =
+    let s = c .before .before .before .before .before .before .before .before .before .before .before .before .before .before .before .before .before .before .before .before .before .before .before .before in
+    let z = shift-kept (s .args .shift) (s .pre .1 .1) in
+    let i = rw z at (c .before .before .before .before .before .before .before .before .before .before .before .before .before .before .before .before .before .loop .inv) in
+    let h = c .before .before .before .before .before .before .before .before .before .before .before .before .before .before .before .unlinked-in .ensures in
+    let b = putting-block (s .pre .0) i h _ _ (rw (c .before .before .before .before .before .before .before .before .m .given .1) at (c .before .before .before .before .before .before .before .before .before .before .before .before .put-block .ensures)) in
+    let g = c .before .before .before .a .given in
+    let l = rw (g .1) at (c .before .before .before .before .before .line-in .ensures) in
+    let o = line-bounds (s .pre .0) b (g .0 .0) (g .0 .1 .0) (g .0 .1 .1 .0) (g .0 .1 .1 .1 .0) l in
+    let k = line-kind (s .pre .0) b (g .0 .0) (g .0 .1 .0) (g .0 .1 .1 .0) (g .0 .1 .1 .1 .0) l in
+    (able-on (s .pre .0) (b .reached), (all-on (s .args .contents .now) (s .pre .1 .0) (b .reached), (o .0, (o .1, (rw (c .before .kind-after .ensures) k, rw z (s .pre .1 .1))))))
 
 enum-known-n : tie.Need-enum-known-n Inv-loop μ-loop
 enum-known-n c = search needs
@@ -77,22 +108,46 @@ enum-told-3 : tie.Need-enum-told-3 Inv-loop μ-loop
 enum-told-3 c = search needs
 
 same-length-3 : tie.Need-same-length-3 Inv-loop μ-loop
-same-length-3 c = omega (arith, reached-length (c .before .before .before .before .before .before .before .before .before .before .before .before .before .before .before .before .before .before .before .loop .inv .reached), c .before .before .before .before .before .before .before .before .before .before .before .before .put-break .kept, c .before .before .before .before .put-line .kept)
+same-length-3 c = omega (arith, reached-length (c .before .before .before .before .before .before .before .before .before .before .before .before .before .before .before .before .before .before .before .before .before .before .loop .inv .reached), c .before .before .before .before .before .before .before .before .before .before .before .before .before .before .before .before .before .put-block .kept, c .before .before .before .before .put-next .kept)
 
 returns-3 : tie.Need-returns-3 Inv-loop μ-loop
-returns-3 c = let s = c .before .before .before .before .before .before .before .before .before .before .before .before .before .before .before .before .before .before .before .before .before .before .before .before .before .before in
-    line-over (s .pre .0) (rw (shift-kept (s .args .shift) (s .pre .1 .1)) at (c .before .before .before .before .before .before .before .before .before .before .before .before .before .before .before .before .before .before .before .loop .inv)) (c .before .before .before .before .before .before .before .before .before .before .before .before .before .before .before .a .given .0 .0) (c .before .before .before .before .before .before .before .before .before .before .before .before .before .before .before .a .given .0 .1 .0) (c .before .before .before .before .before .before .before .before .before .before .before .before .before .before .before .a .given .0 .1 .1 .0) (c .before .before .before .before .before .before .before .before .before .before .before .before .before .before .before .a .given .0 .1 .1 .1 .0) (rw (c .before .before .before .before .before .before .before .before .before .before .before .before .before .before .before .a .given .1) at (c .before .before .before .before .before .before .before .before .before .before .before .before .before .before .before .before .before .line-in .ensures)) _ _ (rw (c .before .before .before .before .before .before .before .before .m .given .1) at (c .before .before .before .before .before .before .before .before .before .before .before .before .put-break .ensures)) (rewriting-same (s .args .contents .now) (s .pre .1 .0) (broken (s .pre .0) (rw (shift-kept (s .args .shift) (s .pre .1 .1)) at (c .before .before .before .before .before .before .before .before .before .before .before .before .before .before .before .before .before .before .before .loop .inv)) (c .before .before .before .before .before .before .before .before .before .before .before .before .before .before .before .a .given .0 .0) (c .before .before .before .before .before .before .before .before .before .before .before .before .before .before .before .a .given .0 .1 .0) (c .before .before .before .before .before .before .before .before .before .before .before .before .before .before .before .a .given .0 .1 .1 .0) (c .before .before .before .before .before .before .before .before .before .before .before .before .before .before .before .a .given .0 .1 .1 .1 .0) (rw (c .before .before .before .before .before .before .before .before .before .before .before .before .before .before .before .a .given .1) at (c .before .before .before .before .before .before .before .before .before .before .before .before .before .before .before .before .before .line-in .ensures)) _ _ (rw (c .before .before .before .before .before .before .before .before .m .given .1) at (c .before .before .before .before .before .before .before .before .before .before .before .before .put-break .ensures))) (s .args .url .now) (s .args .dir .now)) (c .before .before .before .before .before .before .kind-after .ensures) (shift-kept (s .args .shift) (s .pre .1 .1)) (rw (c .enum-told3 .given .1) at (c .before .before .before .before .put-line .ensures))
+returns-3 c =
+    let s = c .before .before .before .before .before .before .before .before .before .before .before .before .before .before .before .before .before .before .before .before .before .before .before .before .before .before .before .before .before in
+    let z = shift-kept (s .args .shift) (s .pre .1 .1) in
+    let i = rw z at (c .before .before .before .before .before .before .before .before .before .before .before .before .before .before .before .before .before .before .before .before .before .before .loop .inv) in
+    let h = c .before .before .before .before .before .before .before .before .before .before .before .before .before .before .before .before .before .before .before .before .unlinked-in .ensures in
+    let b = putting-block (s .pre .0) i h _ _ (rw (c .before .before .before .before .before .before .before .before .before .before .before .before .before .m .given .1) at (c .before .before .before .before .before .before .before .before .before .before .before .before .before .before .before .before .before .put-block .ensures)) in
+    let g = c .before .before .before .before .before .before .before .before .a .given in
+    let l = rw (g .1) at (c .before .before .before .before .before .before .before .before .before .before .line-in .ensures) in
+    let f = rewriting-same (s .args .contents .now) (s .pre .1 .0) (b .reached) (s .args .url .now) (s .args .dir .now) in
+    line-over (s .pre .0) b (g .0 .0) (g .0 .1 .0) (g .0 .1 .1 .0) (g .0 .1 .1 .1 .0) l f (c .before .before .before .before .before .before .kind-after .ensures) z (rw (c .enum-told3 .given .1) at (c .before .before .before .before .put-next .ensures))
 
 is-title-requires : tie.Need-is-title-requires Inv-loop μ-loop
 is-title-requires c κs = search needs
 
 loop-less : tie.Need-loop-less Inv-loop μ-loop
-loop-less c = let s = c .before .before .before .before .before .before .before .before .before .before .before .before .before .before .before .before .before .before .before .before .before .before .before .before .before .before .before .before in
-    omega (arith, line-less (s .pre .0) (rw (shift-kept (s .args .shift) (s .pre .1 .1)) at (c .before .before .before .before .before .before .before .before .before .before .before .before .before .before .before .before .before .before .before .before .before .loop .inv)) (c .before .before .before .before .before .before .before .before .before .before .before .before .before .before .before .before .before .a .given .0 .0) (c .before .before .before .before .before .before .before .before .before .before .before .before .before .before .before .before .before .a .given .0 .1 .0) (c .before .before .before .before .before .before .before .before .before .before .before .before .before .before .before .before .before .a .given .0 .1 .1 .0) (c .before .before .before .before .before .before .before .before .before .before .before .before .before .before .before .before .before .a .given .0 .1 .1 .1 .0) (rw (c .before .before .before .before .before .before .before .before .before .before .before .before .before .before .before .before .before .a .given .1) at (c .before .before .before .before .before .before .before .before .before .before .before .before .before .before .before .before .before .before .before .line-in .ensures)))
+loop-less c =
+    let s = c .before .before .before .before .before .before .before .before .before .before .before .before .before .before .before .before .before .before .before .before .before .before .before .before .before .before .before .before .before .before .before in
+    let z = shift-kept (s .args .shift) (s .pre .1 .1) in
+    let i = rw z at (c .before .before .before .before .before .before .before .before .before .before .before .before .before .before .before .before .before .before .before .before .before .before .before .before .loop .inv) in
+    let h = c .before .before .before .before .before .before .before .before .before .before .before .before .before .before .before .before .before .before .before .before .before .before .unlinked-in .ensures in
+    let b = putting-block (s .pre .0) i h _ _ (rw (c .before .before .before .before .before .before .before .before .before .before .before .before .before .before .before .m .given .1) at (c .before .before .before .before .before .before .before .before .before .before .before .before .before .before .before .before .before .before .before .put-block .ensures)) in
+    let g = c .before .before .before .before .before .before .before .before .before .before .a .given in
+    let l = rw (g .1) at (c .before .before .before .before .before .before .before .before .before .before .before .before .line-in .ensures) in
+    omega (arith, line-less (s .pre .0) b (g .0 .0) (g .0 .1 .0) (g .0 .1 .1 .0) (g .0 .1 .1 .1 .0) l, block-bounds (s .pre .0) i h)
 
 loop-again : tie.Need-loop-again Inv-loop μ-loop
-loop-again c = let s = c .before .before .before .before .before .before .before .before .before .before .before .before .before .before .before .before .before .before .before .before .before .before .before .before .before .before .before .before in
-    rw (c .is-title .ensures, (shift-kept (s .args .shift) (s .pre .1 .1))) (putting-on (s .pre .0) (rw (shift-kept (s .args .shift) (s .pre .1 .1)) at (c .before .before .before .before .before .before .before .before .before .before .before .before .before .before .before .before .before .before .before .before .before .loop .inv)) (c .before .before .before .before .before .before .before .before .before .before .before .before .before .before .before .before .before .a .given .0 .0) (c .before .before .before .before .before .before .before .before .before .before .before .before .before .before .before .before .before .a .given .0 .1 .0) (c .before .before .before .before .before .before .before .before .before .before .before .before .before .before .before .before .before .a .given .0 .1 .1 .0) (c .before .before .before .before .before .before .before .before .before .before .before .before .before .before .before .before .before .a .given .0 .1 .1 .1 .0) (rw (c .before .before .before .before .before .before .before .before .before .before .before .before .before .before .before .before .before .a .given .1) at (c .before .before .before .before .before .before .before .before .before .before .before .before .before .before .before .before .before .before .before .line-in .ensures)) _ _ (rw (c .before .before .before .before .before .before .before .before .before .before .m .given .1) at (c .before .before .before .before .before .before .before .before .before .before .before .before .before .before .put-break .ensures)) (rewriting-same (s .args .contents .now) (s .pre .1 .0) (broken (s .pre .0) (rw (shift-kept (s .args .shift) (s .pre .1 .1)) at (c .before .before .before .before .before .before .before .before .before .before .before .before .before .before .before .before .before .before .before .before .before .loop .inv)) (c .before .before .before .before .before .before .before .before .before .before .before .before .before .before .before .before .before .a .given .0 .0) (c .before .before .before .before .before .before .before .before .before .before .before .before .before .before .before .before .before .a .given .0 .1 .0) (c .before .before .before .before .before .before .before .before .before .before .before .before .before .before .before .before .before .a .given .0 .1 .1 .0) (c .before .before .before .before .before .before .before .before .before .before .before .before .before .before .before .before .before .a .given .0 .1 .1 .1 .0) (rw (c .before .before .before .before .before .before .before .before .before .before .before .before .before .before .before .before .before .a .given .1) at (c .before .before .before .before .before .before .before .before .before .before .before .before .before .before .before .before .before .before .before .line-in .ensures)) _ _ (rw (c .before .before .before .before .before .before .before .before .before .before .m .given .1) at (c .before .before .before .before .before .before .before .before .before .before .before .before .before .before .put-break .ensures))) (s .args .url .now) (s .args .dir .now)) (c .before .before .before .before .before .before .before .before .kind-after .ensures) (shift-kept (s .args .shift) (s .pre .1 .1)) _ _ (rw (c .before .before .n .given .1) at (c .before .before .before .before .before .before .put-line .ensures)))
+loop-again c =
+    let s = c .before .before .before .before .before .before .before .before .before .before .before .before .before .before .before .before .before .before .before .before .before .before .before .before .before .before .before .before .before .before .before in
+    let z = shift-kept (s .args .shift) (s .pre .1 .1) in
+    let i = rw z at (c .before .before .before .before .before .before .before .before .before .before .before .before .before .before .before .before .before .before .before .before .before .before .before .before .loop .inv) in
+    let h = c .before .before .before .before .before .before .before .before .before .before .before .before .before .before .before .before .before .before .before .before .before .before .unlinked-in .ensures in
+    let b = putting-block (s .pre .0) i h _ _ (rw (c .before .before .before .before .before .before .before .before .before .before .before .before .before .before .before .m .given .1) at (c .before .before .before .before .before .before .before .before .before .before .before .before .before .before .before .before .before .before .before .put-block .ensures)) in
+    let g = c .before .before .before .before .before .before .before .before .before .before .a .given in
+    let l = rw (g .1) at (c .before .before .before .before .before .before .before .before .before .before .before .before .line-in .ensures) in
+    let f = rewriting-same (s .args .contents .now) (s .pre .1 .0) (b .reached) (s .args .url .now) (s .args .dir .now) in
+    rw (c .is-title .ensures, z)
+    (putting-on (s .pre .0) b (g .0 .0) (g .0 .1 .0) (g .0 .1 .1 .0) (g .0 .1 .1 .1 .0) l f (c .before .before .before .before .before .before .before .before .kind-after .ensures) z _ _ (rw (c .before .before .n .given .1) at (c .before .before .before .before .before .before .put-next .ensures)))
 
 pub put-lines-spec : {M : Type 1} → statement M
 put-lines-spec =
@@ -102,18 +157,19 @@ put-lines-spec =
     μ-loop
     first-requires
     loop-holds
-    line-in-requires
-    enum-known-a
+    unlinked-in-requires
+    put-block-requires
+    enum-known-m
     enum-told
     same-length
     returns
-    put-break-requires
-    enum-known-m
+    line-in-requires
+    enum-known-a
     enum-told-2
     same-length-2
     returns-2
     kind-after-requires
-    put-line-requires
+    put-next-requires
     enum-known-n
     enum-told-3
     same-length-3
