@@ -5,9 +5,9 @@ use crate::answer::Answer;
 use crate::walking::set::{FileSet, OwnFile};
 
 /// Names with texts, the list, and the URL.
-type Example = (&'static [(&'static str, &'static str)], &'static [&'static str], &'static str);
+pub type Example = (&'static [(&'static str, &'static str)], &'static [&'static str], &'static str);
 
-const URL: &str = "https://h/";
+pub const URL: &str = "https://h/";
 
 /// K10 to K12: the six numbers and the text.
 pub const CHECKS: [(Example, Answer, &str); 3] = [
