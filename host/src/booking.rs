@@ -6,3 +6,4 @@ pub mod model;
 pub mod oracle;
 pub mod sets;
 pub mod texts;
+pub mod timed;
