@@ -151,9 +151,14 @@ fn many() -> [Case; 3] {
     [most, more, records]
 }
 
+/// Those that are refused before the walk, and a list of 64 lines.
+pub fn before_walk() -> impl Iterator<Item = Case> {
+    REFUSED.into_iter().map(refused).chain(many())
+}
+
 /// Every example but the checks.
 pub fn examples() -> impl Iterator<Item = Case> {
     let members = OF_MEMBERS.into_iter().map(of_members);
     let lists = OF_LISTS.into_iter().map(of_example);
-    members.chain(lists).chain(REFUSED.map(refused)).chain(many())
+    members.chain(lists).chain(before_walk())
 }

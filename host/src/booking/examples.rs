@@ -1,10 +1,10 @@
 //! Examples for the rules of a book that are not those of a fill or an assembly alone.
 
 use crate::assembling::case::Case;
-use crate::assembling::examples::{Example, URL, examples as of_assemblies, of_example};
+use crate::assembling::examples::{Example, URL, examples as assembly_examples, of_example};
 use crate::filling::case::Case as Fill;
-use crate::filling::examples::examples as of_fills;
-use crate::walking::set::{FileSet, Handed};
+use crate::filling::examples::examples as fill_examples;
+use crate::walking::set::FileSet;
 
 /// Takes in `c`.
 const A: &str = "# A\n<!--[fragment:c]-->\nold\n<!--[/]-->\n";
@@ -82,15 +82,24 @@ const OF_LISTS: [Example; 36] = [
     ),
 ];
 
-/// The host of a fill as the only member, listed twice.
+/// The host of a fill, with a title at its end, as the only member, listed twice.
 fn of_fill(fill: &Fill) -> Case {
     let mut files = fill.set.own_files();
-    files.push((fill.name.clone(), [b"# T\n", &fill.text[..]].concat()));
+    files.push((fill.name.clone(), [&fill.text[..], b"\n# T\n"].concat()));
     Case::of(FileSet::of(&files), &[&fill.name, &fill.name], URL.as_bytes())
+}
+
+/// The examples of a book.
+pub fn of_lists() -> impl Iterator<Item = Case> {
+    OF_LISTS.into_iter().map(of_example)
+}
+
+/// The examples of a fill as books.
+pub fn of_fills() -> impl Iterator<Item = Case> {
+    fill_examples().map(|fill| of_fill(&fill))
 }
 
 /// Every example: those of a book, of fills and of assemblies.
 pub fn examples() -> impl Iterator<Item = Case> {
-    let fills = of_fills().filter(|fill| fill.refusal().is_none()).map(|fill| of_fill(&fill));
-    OF_LISTS.into_iter().map(of_example).chain(fills).chain(of_assemblies())
+    of_lists().chain(of_fills()).chain(assembly_examples())
 }
