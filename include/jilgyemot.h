@@ -108,6 +108,46 @@ void jilgyemot_assemble(const uint8_t *index, size_t index_length,
                         uint8_t *work, size_t work_length,
                         uint64_t answer[6]);
 
+/*
+ * Makes a book of the files that a list names: fills the regions of each as a fill
+ * does, and assembles what comes of it as an assembly does. Index, contents, list,
+ * URL and buffers are as for an assembly, limit and allowance as for a fill; the
+ * allowance holds for the whole list. A file with no region is kept as it is, and
+ * may be longer than the limit.
+ *
+ * Accepted: 0, the text's length, how often a file was taken in, 0, 0, 0. The output
+ * begins with the text, and its other bytes are unchanged. Refused, the output
+ * unchanged: 2, the number, and its place: the file's index line, or 0, and the line
+ * in it, both counted from 1, or 0 where there is none; then the second place of 19,
+ * at all others 0, 0. "No region" is no answer of a book.
+ *   1  index line ill formed           9   region opened in a region
+ *   2  over 64 index lines             10  fragment marker sharing its line or
+ *   3  part ends past the contents         ill spelled
+ *   4  name twice                      11  region never closed
+ *   5  byte 80 hex or above            12  peer with no own heading above
+ *   6  URL not 1 to 255 bytes of       13  names a file on the chain
+ *      20 to 7E hex                    14  file not in the index
+ *   7  list lacks its last LF, or      15  allowance used up
+ *      has over 64 lines               16  heading past level 6
+ *   8  limit outside its range, or     17  text longer than the limit
+ *      a buffer short                  18  no heading of level 1 in a member
+ *                                      19  anchor also in an earlier member of
+ *                                          another name
+ * The places are those of a fill and of an assembly, and a member is the file of its
+ * index line. 14 stands at the list's line, with file 0, where the list names the
+ * file. All members are filled before any is assembled: 16 and 17 of a fill come
+ * before those of the assembly, whose lines count those of the filled member without
+ * its hand-written contents.
+ */
+void jilgyemot_book(const uint8_t *index, size_t index_length,
+                    const uint8_t *contents, size_t contents_length,
+                    const uint8_t *list, size_t list_length,
+                    const uint8_t *url, size_t url_length,
+                    uint64_t limit, uint32_t allowance,
+                    uint8_t *out, size_t out_length,
+                    uint8_t *work, size_t work_length,
+                    uint64_t answer[6]);
+
 #ifdef __cplusplus
 }
 #endif

@@ -1,10 +1,13 @@
-//! Times the library's scan, fill and assembly beside the Rust's, by turns in one run.
+//! Times the library's scan, fill, assembly and book beside the Rust's, by turns in one
+//! run.
 
 mod bench_assembly;
+mod bench_book;
 mod bench_fill;
 mod bench_walk;
 mod library;
 mod library_assembly;
+mod library_book;
 mod library_fill;
 
 use std::hint::black_box;
@@ -79,4 +82,8 @@ fn main() {
     bench_fill::print_table();
     println!();
     bench_assembly::print_table();
+    println!();
+    bench_book::print_table();
+    println!();
+    bench_book::print_diamonds();
 }

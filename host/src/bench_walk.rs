@@ -3,10 +3,11 @@
 
 use std::hint::black_box;
 
+use doc_gen::fragment::Files;
 use jilgyemot_host::walking::expected::Expected;
 use jilgyemot_host::walking::lent::Function;
 use jilgyemot_host::walking::limits::{Limits, Needs};
-use jilgyemot_host::walking::set::Handed;
+use jilgyemot_host::walking::set::{FileSet, Handed};
 
 use crate::{MIB, RUNS, median, time};
 
@@ -29,7 +30,7 @@ pub fn measure<C: Handed, T>(
     let (mut out, mut work) = (vec![b'.'; limits.out], vec![b'.'; limits.work]);
     let answer = function(case.parts(), &limits, &mut out, &mut work);
     assert_eq!(Some(answer), expected.answer(&limits));
-    assert!(answer[0] < 2, "a row is not refused");
+    assert!(answer[0] < 2, "a row is not refused: {answer:?}");
     assert!(out.starts_with(expected.written(&answer)), "the text differs from the Rust's");
 
     let given: usize = case.parts().iter().map(|part| part.len()).sum();
@@ -57,6 +58,25 @@ pub fn print_row(name: &str, medians: &Medians) {
     let Medians { rust, whole, clearing } = medians;
     let ours = whole - clearing;
     println!("{name:36} {rust:9.4} {ours:9.4} {:10.3} {clearing:11.4}", ours / rust);
+}
+
+/// More files than any row takes in.
+pub const MOST_TAKEN: usize = 10_000;
+
+/// Names and texts, as the Rust reads them.
+pub struct Texts(Vec<(String, String)>);
+
+impl Texts {
+    pub fn of(set: &FileSet) -> Self {
+        Texts(set.files().iter().map(|(name, bytes)| (text(name), text(bytes))).collect())
+    }
+}
+
+impl Files for Texts {
+    fn read(&self, path: &str) -> Result<String, String> {
+        let found = self.0.iter().find(|(name, _)| name == path);
+        found.map(|(_, text)| text.clone()).ok_or_else(|| "not in the index".to_string())
+    }
 }
 
 /// As the Rust takes it.

@@ -4,6 +4,7 @@
 pub mod anchor;
 pub mod answer;
 pub mod assembling;
+pub mod booking;
 pub mod comparison;
 pub mod exhaustive;
 pub mod filling;

@@ -1,10 +1,12 @@
-//! Writes the stored cases of the programs `replay`, `replay_fill` and
-//! `replay_assembly`: what they read and what they have to print, from the Rust's
-//! answers and, at the limits, from the models.
+//! Writes the stored cases of the programs `replay`, `replay_fill`, `replay_assembly` and
+//! `replay_book`: what they read and what they have to print, from the Rust's answers
+//! and, at the limits, from the models.
 
 mod json;
 mod record_assembly;
+mod record_book;
 mod record_fill;
+mod record_list;
 mod record_walk;
 
 use std::fs;
@@ -17,8 +19,8 @@ use jilgyemot_host::outline::outline;
 use jilgyemot_host::random::Random;
 use jilgyemot_host::regions::regions;
 
-const USAGE: &str =
-    "usage: record FOLDER --examples FILE, record FOLDER --fills, or record FOLDER --assemblies";
+const USAGE: &str = "usage: record FOLDER --examples FILE, record FOLDER --fills, \
+    record FOLDER --assemblies, or record FOLDER --books";
 
 const MOST_TEXT: usize = 16_384;
 const MOST_OUTPUT: usize = 65_536;
@@ -236,6 +238,10 @@ fn main() -> std::io::Result<()> {
         }
         [folder, option] if option == "--assemblies" => {
             record_assembly::add_assemblies(&mut cases);
+            folder
+        }
+        [folder, option] if option == "--books" => {
+            record_book::add_books(&mut cases);
             folder
         }
         _ => {

@@ -5,6 +5,7 @@ mod notes;
 #[allow(dead_code)]
 mod random;
 mod stack_assembly;
+mod stack_book;
 mod stack_fill;
 mod stack_set;
 
@@ -14,6 +15,7 @@ use std::hint::black_box;
 use notes::{long_line, marker_in_each_line, notes};
 use random::Random;
 use stack_assembly::assemblies;
+use stack_book::books;
 use stack_fill::fills;
 
 // Only the addresses are taken here; `painted_call` passes the arguments.
@@ -22,6 +24,7 @@ unsafe extern "C" {
     fn jilgyemot_scan();
     fn jilgyemot_fill();
     fn jilgyemot_assemble();
+    fn jilgyemot_book();
 }
 
 type Address = unsafe extern "C" fn();
@@ -36,7 +39,7 @@ struct Call {
 }
 
 /// A row for each call of the library.
-const CALLS: [Call; 3] = [
+const CALLS: [Call; 4] = [
     Call { name: "jilgyemot_scan", address: jilgyemot_scan, bound: 20_480, inputs: scans },
     Call { name: "jilgyemot_fill", address: jilgyemot_fill, bound: 131_072, inputs: fills },
     Call {
@@ -45,6 +48,7 @@ const CALLS: [Call; 3] = [
         bound: 24_576,
         inputs: assemblies,
     },
+    Call { name: "jilgyemot_book", address: jilgyemot_book, bound: 131_072, inputs: books },
 ];
 
 /// What a call is given before its answer, and how it has to answer.

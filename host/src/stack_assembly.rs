@@ -3,7 +3,7 @@
 use crate::Outcome::{self, Accepted, Refused};
 use crate::notes::notes;
 use crate::random::Random;
-use crate::stack_set::{File, input};
+use crate::stack_set::{File, input_of_list};
 use crate::{Input, KIB, MIB};
 
 /// Behind 63 members: the text of the last, the limit and the outcome.
@@ -46,15 +46,16 @@ fn assembly(
     limit: usize,
     outcome: Outcome,
 ) -> Input {
-    let lines: String = list.iter().map(|name| format!("{name}\n")).collect();
-    let rest = [lines.into_bytes(), b"https://h/".to_vec()];
-    input(name, files, rest, limit, &[], files.len() + list.len(), outcome)
+    input_of_list(name, files, list, limit, &[], outcome)
 }
 
 /// All files are listed, in order.
 fn of_all(name: &'static str, files: &[File], limit: usize, outcome: Outcome) -> Input {
-    let list: Vec<&str> = files.iter().map(|(name, _)| &name[..]).collect();
-    assembly(name, files, &list, limit, outcome)
+    assembly(name, files, &names(files), limit, outcome)
+}
+
+pub fn names(files: &[File]) -> Vec<&str> {
+    files.iter().map(|(name, _)| &name[..]).collect()
 }
 
 fn one(text: &str) -> Vec<File> {
@@ -62,7 +63,7 @@ fn one(text: &str) -> Vec<File> {
 }
 
 /// Members `0`, `1` and so on with a heading, a link and a fence each.
-fn stations(count: usize) -> Vec<File> {
+pub fn stations(count: usize) -> Vec<File> {
     let text = |at: usize| {
         format!("# Station {at}\n\n# Datum {at}\n\n[next](./x/../{})\n```\n# A\n```\n", at + 1)
     };

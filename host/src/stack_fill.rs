@@ -8,7 +8,7 @@ use crate::{Input, KIB, MIB};
 
 /// Fills of 64 files, each taking in the next one: the text of the last, limit,
 /// allowance and outcome.
-const DEEP: [(&str, &str, usize, u64, Outcome); 7] = [
+pub const DEEP: [(&str, &str, usize, u64, Outcome); 7] = [
     ("64 files deep", "text\n", 64 * KIB, 64, Accepted),
     ("64 files deep, a problem", "x <!--[fragment:a]-->", KIB, 64, Refused(10)),
     ("64 files deep, a circle", "<!--[fragment:0]-->\n<!--[/]-->", KIB, 64, Refused(13)),
@@ -52,13 +52,13 @@ fn fill(
     input(name, files, rest, limit, &[allowance], files.len(), outcome)
 }
 
-fn region(name: &str) -> String {
+pub fn region(name: &str) -> String {
     format!("<!--[fragment:{name}]-->\n<!--[/]-->\n")
 }
 
 /// Files `0`, `1` and so on, each taking in the next one, and the last one's text.
 /// No heading stands above a region, so every level is 2.
-fn chain(count: usize, last: &str) -> Vec<File> {
+pub fn chain(count: usize, last: &str) -> Vec<File> {
     let text = |at: usize| match at + 1 {
         next if next < count => region(&next.to_string()) + "## Behind\n\n[w](h#k)\n",
         _ => last.to_string(),
@@ -67,6 +67,6 @@ fn chain(count: usize, last: &str) -> Vec<File> {
 }
 
 /// A link with a long path, and one of many parts.
-fn links() -> String {
+pub fn links() -> String {
     format!("[w]({}#k) [w]({}h#k)\n", "x".repeat(1_000), "a/../".repeat(1_000))
 }

@@ -5,6 +5,20 @@ use crate::{Given, Input, Outcome};
 /// A record's name, and the text that it stands for.
 pub type File = (String, Vec<u8>);
 
+/// An assembly or a book of a list; the numbers are those behind the limit.
+pub fn input_of_list(
+    name: &'static str,
+    files: &[File],
+    list: &[&str],
+    limit: usize,
+    numbers: &[u64],
+    outcome: Outcome,
+) -> Input {
+    let lines: String = list.iter().map(|name| format!("{name}\n")).collect();
+    let rest = [lines.into_bytes(), b"https://h/".to_vec()];
+    input(name, files, rest, limit, numbers, files.len() + list.len(), outcome)
+}
+
 /// Index and contents of the files, two texts more, the limit and the numbers behind
 /// it, and buffers just long enough, where work has to hold so many texts and two more.
 pub fn input(

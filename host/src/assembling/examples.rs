@@ -5,9 +5,9 @@ use crate::answer::Answer;
 use crate::walking::set::{FileSet, OwnFile};
 
 /// Names with texts, the list, and the URL.
-type Example = (&'static [(&'static str, &'static str)], &'static [&'static str], &'static str);
+pub type Example = (&'static [(&'static str, &'static str)], &'static [&'static str], &'static str);
 
-const URL: &str = "https://h/";
+pub const URL: &str = "https://h/";
 
 /// K10 to K12: the six numbers and the text.
 pub const CHECKS: [(Example, Answer, &str); 3] = [
@@ -151,9 +151,14 @@ fn many() -> [Case; 3] {
     [most, more, records]
 }
 
+/// Those that are refused before the walk, and a list of 64 lines.
+pub fn before_walk() -> impl Iterator<Item = Case> {
+    REFUSED.into_iter().map(refused).chain(many())
+}
+
 /// Every example but the checks.
 pub fn examples() -> impl Iterator<Item = Case> {
     let members = OF_MEMBERS.into_iter().map(of_members);
     let lists = OF_LISTS.into_iter().map(of_example);
-    members.chain(lists).chain(REFUSED.map(refused)).chain(many())
+    members.chain(lists).chain(before_walk())
 }

@@ -6,7 +6,7 @@ use doc_gen::assembly::{self, Member};
 
 use super::case::Case;
 use super::model::walk;
-use crate::walking::expected::{Expected, difference};
+use crate::walking::expected::{Expected, agreed};
 use crate::walking::set::{File, Handed, ascii};
 use crate::walking::steps::{End, Fault, Place, Walk};
 
@@ -23,10 +23,11 @@ pub fn members(case: &Case) -> Vec<Member> {
     case.members().into_iter().map(member).collect()
 }
 
-fn rust(case: &Case) -> End {
-    match assembly::assemble(&members(case), ascii(&case.url)) {
+/// What the Rust gives for members of these files.
+pub fn rust(members: &[Member], url: &[u8], files: &[File]) -> End {
+    match assembly::assemble(members, ascii(url)) {
         Ok(text) => End::Text(text.into_bytes()),
-        Err(message) => match taken_apart(&message, &case.set.files()) {
+        Err(message) => match taken_apart(&message, files) {
             Some(fault) => End::Fault(fault),
             None => panic!("no number is known for {message:?}"),
         },
@@ -77,6 +78,14 @@ fn last_place<'a>(message: &'a str, words: &str, files: &[File]) -> Option<(&'a 
 
 /// What a case has to answer at any limits. Says where the model and the Rust differ.
 pub fn expected(case: &Case) -> Result<Expected, String> {
+    expected_of(case, walked)
+}
+
+/// The same for another walk of a list.
+pub fn expected_of(
+    case: &Case,
+    walked: impl FnOnce(&Case) -> Result<Walk, String>,
+) -> Result<Expected, String> {
     let walk = match case.refusal() {
         // 8, which limits give, comes before it.
         Some([_, 14, _, line, ..]) => {
@@ -91,7 +100,8 @@ pub fn expected(case: &Case) -> Result<Expected, String> {
 }
 
 fn walked(case: &Case) -> Result<Walk, String> {
-    let walk = walk(&case.set.files(), &case.members(), &case.url);
-    let end = rust(case);
-    if walk.end == end { Ok(walk) } else { Err(difference(&walk, &end, 0)) }
+    let files = case.set.files();
+    let walk = walk(&files, &case.members(), &case.url);
+    agreed(&walk, &rust(&members(case), &case.url, &files), 0)?;
+    Ok(walk)
 }

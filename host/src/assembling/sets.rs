@@ -8,6 +8,7 @@ use crate::exhaustive::Exhaustive;
 use crate::generate::{damage, straddling_of};
 use crate::indexed::host_name;
 use crate::random::Random;
+use crate::walking::lines::few;
 use crate::walking::links::name;
 use crate::walking::set::{FileSet, OwnFile};
 
@@ -38,8 +39,8 @@ impl Sets {
             2 => of_lines(lines(random), lines(random), random),
             3 => many(random),
             4 => colliding(random),
-            5 => damaged(random),
-            6 => ill_formed(random),
+            5 => damaged(some(random), random),
+            6 => ill_formed(some(random), random),
             7 => long_paths(random),
             8 if random.one_in(3) => across_blocks(random),
             9 if random.one_in(100) => large(random),
@@ -49,8 +50,7 @@ impl Sets {
 }
 
 fn lines(random: &mut Random) -> Vec<u8> {
-    let lines: Vec<&str> = (0..random.below(7)).map(|_| random.pick(&LINES)).collect();
-    lines.join("\n").into_bytes()
+    few(&LINES, random)
 }
 
 /// Two members, with a title before or behind their lines or with none more.
@@ -71,7 +71,7 @@ fn of_lines(a: Vec<u8>, b: Vec<u8>, random: &mut Random) -> Case {
 const URLS: [&str; 8] =
     ["https://h", "https://h/", "https://h//", "https://h/a/b///", "h//a", "/", "////", "a#b/"];
 
-fn url(random: &mut Random) -> String {
+pub fn url(random: &mut Random) -> String {
     match random.below(12) {
         0 => "x".repeat(random.within(200, 255)),
         1 => "x".repeat(random.within(1, 200)) + &"/".repeat(random.within(1, 55)),
@@ -81,7 +81,7 @@ fn url(random: &mut Random) -> String {
 }
 
 /// What the texts of a case hold, with a fault or two in some cases.
-fn manner(random: &mut Random) -> Manner {
+pub fn manner(random: &mut Random) -> Manner {
     Manner {
         levels: random.pick(&[1, 2, 2, 3, 4, 6, 6, 6]),
         shared: random.one_in(6),
@@ -114,12 +114,18 @@ fn built(names: &[String], lines: usize, manner: Manner, random: &mut Random) ->
 }
 
 fn laid_out(files: Vec<OwnFile>, lines: usize, random: &mut Random) -> Case {
-    let list = listed(files.len(), lines, random);
+    let members = files.len();
+    of_members(files, members, lines, random)
+}
+
+/// The first files are members.
+pub fn of_members(files: Vec<OwnFile>, members: usize, lines: usize, random: &mut Random) -> Case {
+    let list = listed(members, lines, random);
     let list: Vec<&[u8]> = list.into_iter().map(|at| &files[at].0[..]).collect();
     Case::of(FileSet::laid_out(&files, random), &list, url(random).as_bytes())
 }
 
-fn names(count: usize, random: &mut Random) -> Vec<String> {
+pub fn names(count: usize, random: &mut Random) -> Vec<String> {
     (0..count).map(|at| name(at, random)).collect()
 }
 
@@ -178,8 +184,7 @@ fn long_paths(random: &mut Random) -> Case {
 }
 
 /// A case of another kind, its bytes damaged in a few places.
-fn damaged(random: &mut Random) -> Case {
-    let mut case = some(random);
+pub fn damaged(mut case: Case, random: &mut Random) -> Case {
     let mut files = case.set.own_files();
     for _ in 0..random.within(1, 3) {
         let at = random.below(files.len());
@@ -193,9 +198,8 @@ fn damaged(random: &mut Random) -> Case {
     case
 }
 
-/// A case with one or two of the faults 1 to 7 and 14.
-fn ill_formed(random: &mut Random) -> Case {
-    let mut case = some(random);
+/// A case of another kind, with one or two of the faults 1 to 7 and 14.
+pub fn ill_formed(mut case: Case, random: &mut Random) -> Case {
     for _ in 0..random.within(1, 2) {
         match random.below(12) {
             6 => case.url = host_name(true, random),

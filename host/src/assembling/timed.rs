@@ -24,8 +24,13 @@ const NEAR_MIB: usize = 1_008 * KIB;
 fn of_members(count: usize, mut text: impl FnMut(usize) -> Vec<u8>) -> Case {
     let named = |at: usize| format!("docs/{at}.md").into_bytes();
     let files: Vec<OwnFile> = (0..count).map(|at| (named(at), text(at))).collect();
-    let list: Vec<&[u8]> = files.iter().map(|(name, _)| &name[..]).collect();
-    Case::of(FileSet::of(&files), &list, b"https://river.example/book")
+    of_files(&files, count)
+}
+
+/// The first files are listed.
+pub fn of_files(files: &[OwnFile], members: usize) -> Case {
+    let list: Vec<&[u8]> = files[..members].iter().map(|(name, _)| &name[..]).collect();
+    Case::of(FileSet::of(files), &list, b"https://river.example/book")
 }
 
 fn of_notes(count: usize, size: usize, random: &mut Random) -> Case {

@@ -10,16 +10,17 @@ use crate::walking::steps::{End, Fault, Place, Step, Walk};
 
 /// The walk of a host through files, as far as it takes in `most` of them.
 pub fn walk(files: &[File], name: &[u8], text: &[u8], most: usize) -> Walk {
-    let mut walker = Walker { files, most, taken: 0, deepest: 0, steps: Vec::new() };
+    let mut walker = Walker::of(files, most);
     let end = match walker.fill(0, text, &mut vec![name]) {
         Ok(Some(text)) => End::Text(text),
         Ok(None) => End::NoRegion,
         Err(end) => end,
     };
-    Walk { steps: walker.steps, end, deepest: walker.deepest }
+    walker.ended(end)
 }
 
-struct Walker<'a> {
+/// Makes the steps of one fill after the other.
+pub struct Walker<'a> {
     files: &'a [File<'a>],
     most: usize,
     taken: usize,
@@ -28,8 +29,18 @@ struct Walker<'a> {
 }
 
 impl<'a> Walker<'a> {
+    /// Before the first fill; all of them together take in `most` files.
+    pub fn of(files: &'a [File<'a>], most: usize) -> Self {
+        Walker { files, most, taken: 0, deepest: 0, steps: Vec::new() }
+    }
+
+    /// The walk of all fills.
+    pub fn ended(self, end: End) -> Walk {
+        Walk { steps: self.steps, end, deepest: self.deepest }
+    }
+
     /// Fills the text that the chain ends in; none where it has no region.
-    fn fill(
+    pub fn fill(
         &mut self,
         file: usize,
         text: &[u8],

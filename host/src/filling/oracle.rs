@@ -8,12 +8,12 @@ use doc_gen::fragment::{self, Files};
 
 use super::case::Case;
 use super::model::walk;
-use crate::walking::expected::{Expected, difference};
+use crate::walking::expected::{Expected, agreed};
 use crate::walking::set::{File, Handed, ascii};
 use crate::walking::steps::{End, Fault, Place};
 
 /// The most files that a walk takes in, if nothing else is said.
-const MOST_TAKEN: usize = 1_000;
+pub const MOST_TAKEN: usize = 1_000;
 
 /// What the Rust is told of a name that no record bears.
 const ABSENT: &str = "not in the index";
@@ -22,7 +22,7 @@ const ABSENT: &str = "not in the index";
 const TOO_OFTEN: &str = "read too often";
 
 /// Reads from the index up to `most` times, and counts.
-struct Reader<'a> {
+pub struct Reader<'a> {
     files: &'a [File<'a>],
     reads: Cell<usize>,
     most: usize,
@@ -40,20 +40,29 @@ impl Files for Reader<'_> {
     }
 }
 
-/// What the Rust gives, and how many files it read, which are not to be over `most`.
-fn rust(files: &[File], name: &[u8], text: &[u8], most: usize) -> (End, usize) {
-    let reader = Reader { files, reads: Cell::new(0), most };
-    let end = match fragment::fill(ascii(name), ascii(text), &reader) {
-        Ok(Some(text)) => End::Text(text.into_bytes()),
-        Ok(None) => End::NoRegion,
-        Err(message) => taken_apart(&message, ascii(name), files),
-    };
-    (end, reader.reads.get())
+impl<'a> Reader<'a> {
+    pub fn of(files: &'a [File<'a>], most: usize) -> Self {
+        Reader { files, reads: Cell::new(0), most }
+    }
+
+    /// How many files were read.
+    pub fn reads(&self) -> usize {
+        self.reads.get()
+    }
+
+    /// What the Rust gives for a host, which is the file of this number.
+    pub fn fill(&self, file: usize, name: &str, text: &str) -> End {
+        match fragment::fill(name, text, self) {
+            Ok(Some(text)) => End::Text(text.into_bytes()),
+            Ok(None) => End::NoRegion,
+            Err(message) => taken_apart(&message, (file, name), self.files),
+        }
+    }
 }
 
 /// A message is a path, a line and what is wrong. Only the host's name may hold a
 /// colon, since no region can name such a file.
-fn taken_apart(message: &str, host: &str, files: &[File]) -> End {
+fn taken_apart(message: &str, host: (usize, &str), files: &[File]) -> End {
     let names = files.iter().map(|(name, _)| ascii(name)).enumerate();
     let named = names.filter(|(_, name)| !name.contains(':')).map(|(at, name)| (at + 1, name));
     let read = |(file, name): (usize, &str)| {
@@ -61,7 +70,7 @@ fn taken_apart(message: &str, host: &str, files: &[File]) -> End {
         let number = number(wrong)?;
         Some((number, Place { file, line: line.parse().ok()? }))
     };
-    match std::iter::once((0, host)).chain(named).find_map(read) {
+    match std::iter::once(host).chain(named).find_map(read) {
         Some((0, _)) => End::Unfinished,
         Some((number, place)) => End::Fault(Fault::at(number, place)),
         None => panic!("no number is known for {message:?}"),
@@ -97,10 +106,8 @@ pub fn expected_within(case: &Case, most: usize) -> Result<Expected, String> {
     }
     let files = case.set.files();
     let walk = walk(&files, &case.name, &case.text, most);
-    let (end, reads) = rust(&files, &case.name, &case.text, most);
-    let accepted = matches!(end, End::Text(_));
-    if walk.end != end || (accepted && walk.taken() != reads) {
-        return Err(difference(&walk, &end, reads));
-    }
+    let reader = Reader::of(&files, most);
+    let end = reader.fill(0, ascii(&case.name), ascii(&case.text));
+    agreed(&walk, &end, reader.reads())?;
     Ok(Expected { refused: None, walk, texts: files.len() })
 }

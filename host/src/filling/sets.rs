@@ -7,6 +7,7 @@ use crate::generate::{damage, straddling};
 use crate::indexed::host_name;
 use crate::notes::notes;
 use crate::random::Random;
+use crate::walking::lines::few;
 use crate::walking::links::name;
 use crate::walking::set::{FileSet, OwnFile};
 
@@ -55,8 +56,7 @@ impl Sets {
 }
 
 fn lines(random: &mut Random) -> Vec<u8> {
-    let lines: Vec<&str> = (0..random.below(7)).map(|_| random.pick(&LINES)).collect();
-    lines.join("\n").into_bytes()
+    few(&LINES, random)
 }
 
 fn of_lines(host: Vec<u8>, a: Vec<u8>, b: Vec<u8>) -> Case {
@@ -97,7 +97,7 @@ fn names(count: usize, random: &mut Random) -> Vec<String> {
 }
 
 /// What the texts of a case hold, with a fault or two in every second case.
-fn manner(random: &mut Random) -> Manner {
+pub fn manner(random: &mut Random) -> Manner {
     Manner {
         headless: random.one_in(8),
         damaged: random.one_in(8),
@@ -110,22 +110,38 @@ fn manner(random: &mut Random) -> Manner {
 }
 
 /// What each of the files takes in, and last the host; numbers of files.
-type Targets = Vec<Vec<usize>>;
+pub type Targets = Vec<Vec<usize>>;
 
-/// The case of these files, some targets replaced by what is on the chain or not
-/// in the index.
+/// What some targets are replaced by.
+pub struct Misnamed {
+    /// Any file, which may be on the chain.
+    pub circles: bool,
+    /// What is not in the index.
+    pub absent: bool,
+}
+
+impl Misnamed {
+    /// The names of the targets.
+    pub fn targets(&self, to: &[usize], names: &[String], random: &mut Random) -> Vec<String> {
+        let mut target = |&at: &usize| {
+            if self.circles && random.one_in(4) {
+                names[random.below(names.len())].clone()
+            } else if self.absent && random.one_in(4) {
+                strange(&names[at], random)
+            } else {
+                names[at].clone()
+            }
+        };
+        to.iter().map(|at| target(at)).collect()
+    }
+}
+
+/// The case of these files, some targets misnamed.
 fn built(names: &[String], targets: &Targets, manner: Manner, random: &mut Random) -> Case {
-    let (circles, absent) = (random.one_in(16), random.one_in(10));
+    let misnamed = Misnamed { circles: random.one_in(16), absent: random.one_in(10) };
     let mut texts = Vec::new();
     for (file, targets) in names.iter().zip(targets) {
-        let mut named: Vec<String> = targets.iter().map(|&at| names[at].clone()).collect();
-        for name in &mut named {
-            if circles && random.one_in(4) {
-                *name = names[random.below(names.len())].clone();
-            } else if absent && random.one_in(4) {
-                *name = strange(name, random);
-            }
-        }
+        let named = misnamed.targets(targets, names, random);
         texts.push(Writer { manner, file, names, random }.text(&named));
     }
     let text = texts.pop().unwrap_or_default();

@@ -34,7 +34,7 @@ pub fn plain(size: usize, random: &mut Random) -> Vec<u8> {
     text
 }
 
-fn region(name: &str, peer: bool) -> String {
+pub fn region(name: &str, peer: bool) -> String {
     let peer = if peer { ":peer" } else { "" };
     format!("<!--[fragment:{name}{peer}]-->\n<!--[/]-->\n")
 }

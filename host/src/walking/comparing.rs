@@ -19,6 +19,10 @@ pub struct Answers {
     pub most_files: u64,
     pub deepest: usize,
     longest: u64,
+    /// Cases that were run again with larger limits.
+    again: u64,
+    /// Accepted cases that took files in.
+    filled: u64,
     refused: [u64; 20],
     in_files: [u64; 20],
 }
@@ -29,6 +33,7 @@ impl Answers {
         match answer[0] {
             0 => {
                 self.accepted += 1;
+                self.filled += u64::from(answer[2] > 0);
                 self.deepest = self.deepest.max(deepest);
                 self.longest = self.longest.max(answer[1]);
                 self.most_files = self.most_files.max(answer[2]);
@@ -53,11 +58,12 @@ impl Answers {
 impl Display for Answers {
     fn fmt(&self, f: &mut Formatter) -> fmt::Result {
         write!(f, "accepted: {}, of up to {} bytes", self.accepted, self.longest)?;
+        write!(f, ", {} with files taken in", self.filled)?;
         for (number, all) in self.refused.iter().enumerate().filter(|(_, all)| **all > 0) {
             let in_files = self.in_files[number];
             write!(f, "\nrefusal {number}: {all}, in a file of the index {in_files}")?;
         }
-        Ok(())
+        write!(f, "\nwith larger limits again: {}", self.again)
     }
 }
 
@@ -75,15 +81,22 @@ pub struct Comparison<C> {
     pub answers: Answers,
     call: Call<C>,
     lent: Lent,
+    random: Random,
+}
+
+/// Whether larger limits may give another answer: after 8, 15 and 17.
+fn is_for_limits(answer: &Answer) -> bool {
+    answer[0] == 2 && [8, 15, 17].contains(&answer[1])
 }
 
 impl<C: Handed> Comparison<C> {
     pub fn of(call: Call<C>) -> Self {
-        Comparison { answers: Answers::default(), call, lent: Lent::default() }
+        let (answers, lent, random) = (Answers::default(), Lent::default(), Random::new(1));
+        Comparison { answers, call, lent, random }
     }
 
-    /// Compares a case at the limits chosen for it; each of them is one call. The
-    /// answer is the number of calls.
+    /// Compares a case at the limits chosen for it; each of them is one call, and some
+    /// are made again with larger ones. The answer is the number of calls.
     fn compare(
         &mut self,
         case: &C,
@@ -93,22 +106,31 @@ impl<C: Handed> Comparison<C> {
         let mut calls = 0;
         for limits in distinct(choose(&Needs::of(&expected.walk), expected.texts)) {
             let Some(answer) = expected.answer(&limits) else { continue };
-            let written = expected.written(&answer);
-            let function = self.call.function;
-            let called = self.lent.call(function, case.parts(), &limits, &answer, written);
-            called.map_err(|wrong| (wrong, Some(limits)))?;
+            let said = (answer, expected.written(&answer));
+            self.call_with(case, &limits, said)?;
             self.answers.count(&answer, expected.walk.deepest);
             calls += 1;
+            if !is_for_limits(&answer) && self.random.one_in(4) {
+                let larger = limits.larger(expected.texts, &mut self.random);
+                self.call_with(case, &larger, said)?;
+                self.answers.again += 1;
+                calls += 1;
+            }
         }
         Ok(calls)
     }
 
+    /// One call, which has to give this answer and text.
+    fn call_with(&mut self, case: &C, limits: &Limits, said: (Answer, &[u8])) -> Result<(), Wrong> {
+        let (answer, written) = said;
+        let called = self.lent.call(self.call.function, case.parts(), limits, &answer, written);
+        called.map_err(|wrong| (wrong, Some(*limits)))
+    }
+
     /// A case that document 01 says the answer and the text of.
     pub fn check(&mut self, case: &C, limits: &Limits, said: (Answer, &str)) -> Result<(), String> {
-        let (answer, text) = said;
-        let function = self.call.function;
-        let called = self.lent.call(function, case.parts(), limits, &answer, text.as_bytes());
-        called.map_err(|wrong| format!("{}{wrong}", shown(case)))
+        let called = self.call_with(case, limits, (said.0, said.1.as_bytes()));
+        called.map_err(|(wrong, _)| format!("{}{wrong}", shown(case)))
     }
 
     /// A case at every limit that tells.

@@ -36,10 +36,15 @@ impl Expected {
     }
 }
 
-/// The end of the model's walk beside that of the Rust.
-pub fn difference(model: &Walk, rust: &End, reads: usize) -> String {
+/// Says where the model and the Rust differ. Where there is a text, the Rust has to read
+/// as many files as the model takes in.
+pub fn agreed(model: &Walk, rust: &End, reads: usize) -> Result<(), String> {
+    let counted = !matches!(rust, End::Text(_)) || model.taken() == reads;
+    if model.end == *rust && counted {
+        return Ok(());
+    }
     let [model, rust] = [(&model.end, model.taken()), (rust, reads)].map(shown);
-    format!("model {model}\nRust  {rust}")
+    Err(format!("model {model}\nRust  {rust}"))
 }
 
 fn shown((end, taken): (&End, usize)) -> String {

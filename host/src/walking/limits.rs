@@ -25,6 +25,16 @@ impl Limits {
         Limits { limit: limit as u64, allowance, out: limit, work: (texts + 2) * limit }
     }
 
+    /// L, B and buffers as large or larger, where work has to hold so many texts and two
+    /// more.
+    pub fn larger(&self, texts: usize, random: &mut Random) -> Self {
+        let limit = self.limit as usize + random.pick(&[0, 1, 100, self.limit as usize]);
+        let allowance = self.allowance.saturating_add(random.pick(&[0, 1, 1 << 8, u32::MAX]));
+        let least = Limits::of(limit, allowance, texts);
+        let (out, work) = (least.out.max(self.out), least.work.max(self.work));
+        Limits { out, work, ..least }.with_room(random)
+    }
+
     fn with_room(mut self, random: &mut Random) -> Self {
         self.out += random.below(100);
         self.work += random.pick(&[0, 1, 7, 64, self.out]);
