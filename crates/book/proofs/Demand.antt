@@ -15,11 +15,11 @@ use Rattle.book.specs.Calls.{bookOutcome}
 use Rattle.book.specs.Demand.{fileSet, listed, outcomeNumber, Demand3}
 use Rattle.book.proofs.DemandLaws.{given-exactly, given-text, given-count, larger-limits, refused-because}
 
-outcome-text : (j : Judged (List ℕ)) (t : List ℕ) (n : ℕ) → outcome j ≡ text t n → j ≡ given t n
+pub outcome-text : (j : Judged (List ℕ)) (t : List ℕ) (n : ℕ) → outcome j ≡ text t n → j ≡ given t n
 outcome-text (given a m) t n e = let p : a ≡ t = cc in let q : m ≡ n = cc in rw (p, q)
 outcome-text (refused x) t n e = let z : _≡_ {A = ℕ} 0 1 = cc in absurd (omega arith)
 
-outcome-refused : (j : Judged (List ℕ)) (x : Refusal) → outcome j ≡ refusal x → j ≡ refused x
+pub outcome-refused : (j : Judged (List ℕ)) (x : Refusal) → outcome j ≡ refusal x → j ≡ refused x
 outcome-refused (given a m) x e = let z : _≡_ {A = ℕ} 0 1 = cc in absurd (omega arith)
 outcome-refused (refused y) x e = let q : y ≡ x = cc in rw q
 

@@ -1,0 +1,3 @@
+pub mod JudgeLaws
+pub mod MakingLaws
+pub mod MemberLaws
