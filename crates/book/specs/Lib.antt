@@ -2,4 +2,3 @@ pub mod Book
 pub mod BookWalk
 pub mod Calls
 pub mod Demand
-pub mod Given

@@ -22,9 +22,9 @@ use Rattle.fileset.specs.declared.check.Checked.the-variants.{Passed}
 use Rattle.fileset.proofs.CheckLaws.{rows-same}
 use Rattle.fileset.proofs.PassedLaws.{book-named}
 use Rattle.chains.specs.Chains.{fileAt}
-use Rattle.chains.proofs.GrowLaws.{find-within}
+use Rattle.chains.proofs.GrowLaws.{find-files, find-within}
 use Rattle.filling.specs.Filling.{filesIn}
-use Rattle.filling.proofs.FilesLaws.{find-files, row-file}
+use Rattle.filling.proofs.FilesLaws.{row-file}
 use Rattle.members.specs.Members.{memberAt, numbersOf, nameOf, fileIn, filesFrom, Lies, AllLie}
 use Rattle.members.specs.declared.Member.{Member}
 use Rattle.members.proofs.MembersLaws.{put-length, member-put-same, member-put-other}

@@ -4,11 +4,11 @@ use mathlib.Core.Path.{sym, _∙_}
 use lib.ListN.{length, take}
 use lib.Seq.{length-take-le}
 use Rattle.answer.specs.declared.Answer.the-variants.{Accepted}
-use Rattle.book.specs.Given.{Fits}
-use Rattle.book.proofs.GivenLaws.{copied-front}
+use Rattle.calls.specs.Given.{Fits}
+use Rattle.calls.proofs.GivenLaws.{copied-front}
 use borrow.Author.Needs.{needs}
-use Rattle.book.proofs.give.copy_out.Statement.{statement}
-use Rattle.book.proofs.give.copy_out.Tie as tie
+use Rattle.calls.proofs.give.copy_out.Statement.{statement}
+use Rattle.calls.proofs.give.copy_out.Tie as tie
 
 enum-known-a : tie.Need-enum-known-a
 enum-known-a c = search needs

@@ -3,10 +3,10 @@ use native.Mathlib.Omega.{arith}
 use mathlib.Core.Path.{_≡_, sym, _∙_}
 use Rattle.fileset.specs.Check.{fillChecked, Passes}
 use Rattle.fileset.specs.declared.check.Checked.the-variants.{Passed}
-use Rattle.book.proofs.FillCallLaws.{filled-read, fill-ready, fill-room, fill-passed, fill-held, fill-stopped}
+use Rattle.calls.proofs.FillCallLaws.{filled-read, fill-ready, fill-room, fill-passed, fill-held, fill-stopped}
 use borrow.Author.Needs.{needs}
-use Rattle.book.proofs.fill.run.Statement.{statement}
-use Rattle.book.proofs.fill.run.Tie as tie
+use Rattle.calls.proofs.fill.run.Statement.{statement}
+use Rattle.calls.proofs.fill.run.Tie as tie
 
 check-fill-requires : tie.Need-check-fill-requires
 check-fill-requires c κs = search needs

@@ -17,9 +17,9 @@ use Rattle.assembly.specs.declared.Assembled.{Assembled}
 use Rattle.assembly.specs.declared.Assembled.the-variants.{Text, Refused}
 use Rattle.assembly.specs.Assemble.{assemble, readAssembled}
 use Rattle.assembly.specs.Parts.{AssembledWithin}
 use Rattle.book.specs.Book.{membersOf}
 use Rattle.book.specs.Calls.{assembleOutcome}
-use Rattle.book.specs.Given.{assembled, readAnswer, Fits}
+use Rattle.calls.specs.Given.{assembled, readAnswer, Fits}
 
 -- an assembly's own answer, read
 pub assembled-read : (r : Assembled) (w : List ℕ) → readAssembled 0 r w ≡ readAnswer (assembled r) w

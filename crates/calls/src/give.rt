@@ -2,8 +2,8 @@
 ghost use mathlib.Core.Path.{_≡_};
 ghost use Prim.Native.Nat.{_≤_};
 ghost use lib.ListN.{length};
 ghost use Rattle.book.specs.Calls.{workAfter};
-ghost use Rattle.book.specs.Given.{copied, Fits};
+ghost use Rattle.calls.specs.Given.{copied, Fits};
 use answer::Answer;
 
 // Copies the text of an answer from the front of the work buffer to the front of the output.

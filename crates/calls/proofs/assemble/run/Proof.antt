@@ -7,10 +7,10 @@ use Rattle.index.specs.Index.{records}
 use Rattle.fileset.specs.Check.{bookChecked, Passes, Listed}
 use Rattle.fileset.specs.declared.check.Checked.the-variants.{Passed}
 use Rattle.listed.proofs.FilesLaws.{are-listed, all-lie, files-same}
-use Rattle.book.proofs.AssembleCallLaws.{assembled-read, assemble-room, assemble-held, assemble-passed, assemble-stopped}
+use Rattle.calls.proofs.AssembleCallLaws.{assembled-read, assemble-room, assemble-held, assemble-passed, assemble-stopped}
 use borrow.Author.Needs.{needs}
-use Rattle.book.proofs.assemble.run.Statement.{statement}
-use Rattle.book.proofs.assemble.run.Tie as tie
+use Rattle.calls.proofs.assemble.run.Statement.{statement}
+use Rattle.calls.proofs.assemble.run.Tie as tie
 
 check-book-requires : tie.Need-check-book-requires
 check-book-requires c κs = search needs

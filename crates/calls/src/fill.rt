@@ -2,8 +2,8 @@
 ghost use mathlib.Core.Path.{_≡_};
 ghost use Prim.Native.Nat.{_≤_};
 ghost use lib.ListN.{length};
 ghost use Rattle.book.specs.Calls.{fillOutcome, answerOf, outputAfter, workAfter};
-ghost use Rattle.book.specs.Given.{answered, readAnswer, Fits};
+ghost use Rattle.calls.specs.Given.{answered, readAnswer, Fits};
 use crate::give;
 use answer::Answer;
 use fileset::check;

@@ -21,8 +21,8 @@ use Rattle.chains.specs.Fill.{filled}
 use Rattle.filling.specs.declared.Filled.{Filled}
 use Rattle.filling.specs.declared.Filled.the-variants.{Text, NoRegion, Refused}
 use Rattle.answer.specs.declared.Refusal.{Refusal}
 use Rattle.book.specs.Calls.{fillOutcome}
-use Rattle.book.specs.Given.{answered, readAnswer, Fits}
+use Rattle.calls.specs.Given.{answered, readAnswer, Fits}
 use Rattle.filling.specs.Filling.{readFilled, Ready, FilledWithin}
 
 -- a fill's own answer, read

@@ -7,8 +7,8 @@ use lib.ListN.{length, take, drop}
 use lib.Seq.{sets, sets-eq, length-take-le}
 use Rattle.answer.specs.declared.Answer.{Answer}
 use Rattle.answer.specs.declared.Answer.the-variants.{Accepted, NoRegion, Refused}
 use Rattle.book.specs.Calls.{answerOf, outputAfter}
-use Rattle.book.specs.Given.{readAnswer, copied, Fits}
+use Rattle.calls.specs.Given.{readAnswer, copied, Fits}
 
 pub answer-read : (a : Answer) (w : List ℕ) (out : ℕ) → Fits a out (length w) → a ≡ answerOf (readAnswer a w)
 answer-read (Accepted n f) w out h = ap (λ (k : ℕ). Accepted k f) (sym (length-take-le n w (h .1)))

@@ -1,0 +1,3 @@
+pub mod GivenLaws
+pub mod FillCallLaws
+pub mod AssembleCallLaws
