@@ -22,9 +22,9 @@ use Rattle.book.specs.Calls.{assembleOutcome}
 use Rattle.calls.specs.Given.{assembled, readAnswer, Fits}
 
 -- an assembly's own answer, read
-pub assembled-read : (r : Assembled) (w : List ℕ) → readAssembled 0 r w ≡ readAnswer (assembled r) w
-assembled-read (Text n) w = refl
-assembled-read (Refused x) w = refl
+pub assembled-read : (files : ℕ) (r : Assembled) (w : List ℕ) → readAssembled files r w ≡ readAnswer (assembled files r) w
+assembled-read files (Text n) w = refl
+assembled-read files (Refused x) w = refl
 
 -- once the checks pass
 module _ (index contents list url : List ℕ) (limit out work : ℕ) (p : bookChecked index contents list url limit out work ≡ Passed) where
@@ -36,7 +36,7 @@ module _ (index contents list url : List ℕ) (limit out work : ℕ) (p : bookCh
       let h : suc (suc n) * limit ≤ work = rw e at (f .1 .1) in
       (f .0, omega (arith, suc-mul (suc n) limit, suc-mul n limit))
 
-  pub assemble-held : (r : Assembled) → AssembledWithin r limit → Fits (assembled r) out work
+  pub assemble-held : (r : Assembled) → AssembledWithin r limit → Fits (assembled 0 r) out work
   assemble-held (Text n) h = (omega (arith, book-fit index contents list url limit out work p .1 .0), omega (arith, assemble-room .1))
   assemble-held (Refused x) h = tt
 

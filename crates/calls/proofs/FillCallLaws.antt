@@ -13,8 +13,9 @@ use Rattle.index.specs.Rows.{recordsIn}
 use Rattle.fileset.specs.Check.{fillChecked, Passes}
 use Rattle.fileset.specs.declared.check.Checked.{Checked}
 use Rattle.fileset.specs.declared.check.Checked.the-variants.{Passed, Refused as Stopped}
-use Rattle.fileset.proofs.CheckLaws.{rows-same, rows-named}
+use Rattle.fileset.proofs.CheckLaws.{rows-same}
 use Rattle.fileset.proofs.PassedLaws.{fill-fit}
+use Rattle.listed.proofs.FilesLaws.{rows-ready}
 use Rattle.chains.specs.Chains.{free, noMarks, chain, startAt}
 use Rattle.walk.specs.Outcome.{Outcome, refusal}
 use Rattle.chains.specs.Fill.{filled}
@@ -45,7 +46,7 @@ module _ (index contents name text rows : List ℕ) (limit out work n : ℕ) (p 
   counted = c ∙ q .lines
 
   pub fill-ready : Ready index rows (length contents) n
-  fill-ready = let e : n ≡ length (records index) = counted in record { few = omega (arith, q .few); named = rows-named (q .told) e; within = rw e (q .within) }
+  fill-ready = rows-ready q c
 
   roomy : suc n * limit + limit ≤ work
   roomy =

@@ -1,3 +1,4 @@
 pub mod GivenLaws
 pub mod FillCallLaws
 pub mod AssembleCallLaws
+pub mod BookCallLaws

@@ -11,15 +11,15 @@ use Rattle.filling.specs.declared.Filled.the-variants.{Text, NoRegion as NoRegi
 use Rattle.assembly.specs.declared.Assembled.{Assembled}
 use Rattle.assembly.specs.declared.Assembled.the-variants.{Text as Joined, Refused as JoinRefused}
 
--- the answer that a fill's own answer becomes, and an assembly's
+-- the answer that a fill's own answer becomes, and an assembly's, with the files taken in before
 abbrev pub answered : Filled → Answer
 answered (Text n f) = Accepted n f
 answered NoRegionIn = NoRegion
 answered (FillRefused x) = Refused x
 
-abbrev pub assembled : Assembled → Answer
-assembled (Joined n) = Accepted n 0
-assembled (JoinRefused x) = Refused x
+abbrev pub assembled : ℕ → Assembled → Answer
+assembled files (Joined n) = Accepted n files
+assembled files (JoinRefused x) = Refused x
 
 -- an answer, with the buffer that begins with its text
 abbrev pub readAnswer : Answer → List ℕ → Outcome

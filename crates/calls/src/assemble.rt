@@ -3,25 +3,14 @@ ghost use mathlib.Core.Path.{_≡_};
 ghost use Prim.Native.Nat.{_≤_};
 ghost use lib.ListN.{length};
 ghost use Rattle.book.specs.Calls.{assembleOutcome, answerOf, outputAfter, workAfter};
-ghost use Rattle.calls.specs.Given.{assembled, readAnswer, Fits};
+ghost use Rattle.calls.specs.Given.{readAnswer, Fits};
 use crate::give;
 use answer::Answer;
-use assembly::Assembled;
 use fileset::check;
 use fileset::check::Checked;
 use fileset::check::Sizes;
 
-// An assembly takes no file in.
-fn answer_of(got: Assembled) -> Answer
-    ensures { λ r. ⌜ r ≡ assembled got ⌝ }
-{
-    match got {
-        Assembled::Text(length) => Answer::Accepted { length, files: 0 },
-        Assembled::Refused(refusal) => Answer::Refused(refusal),
-    }
-}
-
-// Checks the input, and assembles the members at the front of the work buffer. The table of anchors stands behind them.
+// Checks the input, and assembles the members at the front of the work buffer. The table of anchors stands behind them. An assembly takes no file in.
 fn run(
     index: &[u8],
     contents: &[u8],
@@ -43,7 +32,17 @@ fn run(
             let mut set = [0usize; 704];
             listed::put_files(&rows, &lines, count, &mut set);
             let limit = sizes.limit;
-            answer_of(assembly::assemble(index, contents, url, &mut set, count, limit, limit, work))
+            let text = assembly::assemble(
+                index,
+                contents,
+                url,
+                &mut set,
+                count,
+                limit,
+                limit,
+                work,
+            );
+            give::answer_of(text, 0)
         }
     }
 }

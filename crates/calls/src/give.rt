@@ -3,8 +3,19 @@ ghost use mathlib.Core.Path.{_≡_};
 ghost use Prim.Native.Nat.{_≤_};
 ghost use lib.ListN.{length};
 ghost use Rattle.book.specs.Calls.{workAfter};
-ghost use Rattle.calls.specs.Given.{copied, Fits};
+ghost use Rattle.calls.specs.Given.{assembled, copied, Fits};
 use answer::Answer;
+use assembly::Assembled;
+
+// The answer that an assembly's own answer becomes, with the files taken in before.
+pub fn answer_of(got: Assembled, files: usize) -> Answer
+    ensures { λ r. ⌜ r ≡ assembled files got ⌝ }
+{
+    match got {
+        Assembled::Text(length) => Answer::Accepted { length, files },
+        Assembled::Refused(refusal) => Answer::Refused(refusal),
+    }
+}
 
 // Copies the text of an answer from the front of the work buffer to the front of the output.
 fn copy_out(a: Answer, work: &[u8], out: &mut [u8])

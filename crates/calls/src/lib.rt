@@ -1,4 +1,5 @@
-// The calls fill and assembly.
+// The calls fill, assembly and book.
 pub mod assemble;
+pub mod books;
 pub mod fill;
 mod give;

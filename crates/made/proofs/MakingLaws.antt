@@ -66,6 +66,12 @@ slots-fit L n count W i r h =
     let more : (i + 1 + suc n) * L ≤ (n + count + 2) * L = mul-le-mul-right L (omega arith) in
     omega arith
 
+-- behind the slots of all members one more
+pub table-fits : (L n count W : ℕ) → (n + count + 2) * L ≤ W → slot L count + L ≤ W
+table-fits L n count W r =
+    let more : slot L (count + 1) ≤ (n + count + 2) * L = mul-le-mul-right L (omega arith) in
+    omega (arith, slot-next L count)
+
 pub can-fill : {index rows : List ℕ} {contents n count L W W′ i : ℕ} {set : List ℕ} {m : Member} → CanMake index rows contents set n count L W → i < count → m ≡ memberAt set i → W′ ≡ W
     → CanFill index rows contents m n L (slot L i) W′
 can-fill {index} {rows} {contents} {n} {count} {L} {W} {W′} {i} c h e q = record {

@@ -6,8 +6,9 @@ use mathlib.Core.Bool.{true, false}
 use mathlib.Core.List.{List, map}
 use lib.ListN.{length}
 use Rattle.index.specs.Index.{File}
-use Rattle.walk.specs.Steps.{Judged, given, refused, judge}
+use Rattle.walk.specs.Steps.{Steps, go, Judged, given, refused, judge}
 use Rattle.chains.specs.Chains.{startAt}
+use Rattle.assembly.specs.Assemble.{assemble}
 use Rattle.filling.specs.Filling.{Ready}
 use Rattle.members.specs.Members.{memberAt, Lies, AllLie}
 use Rattle.members.specs.declared.Member.{Member}
@@ -39,6 +40,10 @@ pub record CanMake (index rows : List ℕ) (contents : ℕ) (set : List ℕ) (n 
   pub lie : AllLie index contents L L set count
   pub stand : (i : ℕ) → i < count → memberAt set i .source .work ≡ false
   pub room : (n + count + 2) * L ≤ work
+
+-- the walk of the book whose members are hs
+abbrev pub bookOf : List File → List File → List ℕ → Steps (List ℕ)
+bookOf S hs url = go (walkAll (map (startAt S) hs)) (λ ts. assemble url (withTexts hs ts))
 
 -- the members hs, judged with B and L, one after the other
 abbrev pub judgedAll : ℕ → ℕ → List File → List File → Judged (List (List ℕ))

@@ -62,7 +62,7 @@ returns-2 : tie.Need-returns-2
 returns-2 c = let a = c .before .before .before .before .before .before .before .before .before .before .before .before .before .before .before .before .before .before .before .before .before .args in let k = c .before .before .before .before .before .before .before .before .before .before .before in let b = c .before .before .before .before .before .before .before .before .before .before .before .before .before .check-book .last .1 .1 .1 .1 .1 in let f = c .before .before .before .assemble in let e = c .answer-of .ensures in
     let w : List ℕ = f .last .1 .1 .1 .1 .1 .1 .1 .0 in
     let s = files-same (a .index .now) (a .contents .now) (a .list .now) (a .url .now) (b .0) (b .1 .0) (a .sizes .limit) (a .sizes .output) (a .sizes .work) (c .before .before .before .before .before .before .before .before .before .before .line-count .result) (passed k) (told k) (listed k) (c .before .before .before .before .before .before .before .before .before .before .line-count .ensures) (c .before .before .before .before .before .before .put-files .ensures) (a .work .now) in (
-      rw e (sym (assembled-read (f .result) w) ∙ assemble-passed (a .index .now) (a .contents .now) (a .list .now) (a .url .now) (a .sizes .limit) (a .sizes .output) (a .sizes .work) (passed k) s (f .ensures .0 0 0)),
+      rw e (sym (assembled-read 0 (f .result) w) ∙ assemble-passed (a .index .now) (a .contents .now) (a .list .now) (a .url .now) (a .sizes .limit) (a .sizes .output) (a .sizes .work) (passed k) s (f .ensures .0 0 0)),
       rw e (assemble-held (a .index .now) (a .contents .now) (a .list .now) (a .url .now) (a .sizes .limit) (a .sizes .output) (a .sizes .work) (passed k) (f .result) (f .ensures .1)),
     )
 

@@ -1,7 +1,7 @@
 -- `answer_of` meets its contract. Assumes nothing.
 use borrow.Author.Needs.{needs}
-use Rattle.calls.proofs.assemble.answer_of.Statement.{statement}
-use Rattle.calls.proofs.assemble.answer_of.Tie as tie
+use Rattle.calls.proofs.give.answer_of.Statement.{statement}
+use Rattle.calls.proofs.give.answer_of.Tie as tie
 
 enum-known-got : tie.Need-enum-known-got
 enum-known-got c = search needs
