@@ -12,7 +12,7 @@ use Rattle.chains.proofs.Paths.{counts-chains}
 use Rattle.book.specs.BookWalk.{book}
 use Rattle.walk.specs.Outcome.{text, refusal, outcome}
 use Rattle.book.specs.Calls.{bookOutcome}
-use Rattle.book.specs.Demand.{fileSet, listed, outcomeNumber, Demand3}
+use Rattle.book.specs.Demand.{fileSet, listed, outcomeNumber, OutcomeDemand3}
 use Rattle.book.proofs.DemandLaws.{given-exactly, given-text, given-count, larger-limits, refused-because}
 
 pub outcome-text : (j : Judged (List ℕ)) (t : List ℕ) (n : ℕ) → outcome j ≡ text t n → j ≡ given t n
@@ -36,7 +36,7 @@ module _ (index contents list url : List ℕ) where
   unfolding bookOutcome
   walked L B out work e = rw e
 
-  pub demand-3 : Demand3 index contents list url
+  pub demand-3 : OutcomeDemand3 index contents list url
   demand-3 = record {
     exactly-when = λ L B out work e.
         let w = walked L B out work e in

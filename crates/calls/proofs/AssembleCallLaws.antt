@@ -15,8 +15,8 @@ use Rattle.walk.specs.Outcome.{Outcome, refusal, outcome}
 use Rattle.answer.specs.declared.Refusal.{Refusal}
 use Rattle.assembly.specs.declared.Assembled.{Assembled}
 use Rattle.assembly.specs.declared.Assembled.the-variants.{Text, Refused}
-use Rattle.assembly.specs.Assemble.{assemble, readAssembled}
-use Rattle.assembly.specs.Parts.{AssembledWithin}
+use Rattle.assembled.specs.Assemble.{assemble}
+use Rattle.assembly.specs.Parts.{readAssembled, AssembledWithin}
 use Rattle.book.specs.Book.{membersOf}
 use Rattle.book.specs.Calls.{assembleOutcome}
 use Rattle.calls.specs.Given.{assembled, readAnswer, Fits}

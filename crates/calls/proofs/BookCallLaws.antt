@@ -16,8 +16,8 @@ use Rattle.index.specs.Index.{File, records, files}
 use Rattle.fileset.specs.Members.{members}
 use Rattle.walk.specs.Steps.{Steps, judge}
 use Rattle.walk.specs.Outcome.{Outcome, refusal, outcome}
-use Rattle.assembly.specs.Assemble.{assemble, readAssembled}
-use Rattle.assembly.specs.Parts.{AssembledWithin}
+use Rattle.assembled.specs.Assemble.{assemble}
+use Rattle.assembly.specs.Parts.{readAssembled, AssembledWithin}
 use Rattle.assembly.specs.declared.Assembled.{Assembled}
 use Rattle.assembly.specs.declared.Assembled.the-variants.{Text, Refused}
 use Rattle.book.specs.BookWalk.{book}

@@ -7,7 +7,7 @@ use Rattle.index.specs.Index.{File}
 use Rattle.walk.specs.Steps.{refused, judge, go}
 use Rattle.walk.proofs.StepsLaws.{judge-go, judgeThen}
 use Rattle.chains.specs.Chains.{Chain, fileAt, startAt}
-use Rattle.assembly.specs.Assemble.{assemble}
+use Rattle.assembled.specs.Assemble.{assemble}
 use Rattle.book.specs.Book.{membersOf, withTexts}
 use Rattle.book.specs.BookWalk.{walkAll, book}
 use Rattle.made.specs.Made.{bookOf, judgedAll, textsOf, AreMade}

@@ -8,7 +8,7 @@ use lib.ListN.{length}
 use Rattle.index.specs.Index.{File}
 use Rattle.walk.specs.Steps.{Steps, go, Judged, given, refused, judge}
 use Rattle.chains.specs.Chains.{startAt}
-use Rattle.assembly.specs.Assemble.{assemble}
+use Rattle.assembled.specs.Assemble.{assemble}
 use Rattle.filling.specs.Filling.{Ready}
 use Rattle.members.specs.Members.{memberAt, Lies, AllLie}
 use Rattle.members.specs.declared.Member.{Member}

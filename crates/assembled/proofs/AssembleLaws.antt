@@ -2,7 +2,7 @@
 use Prim.Native.Nat.{ℕ, _+_, _≤_}
 use native.Mathlib.Omega.{arith}
 use mathlib.Core.Path.{_≡_, refl, sym, ap, _∙_}
-use mathlib.Core.List.{List, [], _∷_, map}
+use mathlib.Core.List.{List, [], _∷_, _++_, map, List·Memᴰ, List·Memᴰ·head, List·Memᴰ·tail}
 use mathlib.Core.Option.{Option, none, some}
 use lib.ListN.{length, length-append}
 use Rattle.text.specs.Lines.{LF}
@@ -19,8 +19,8 @@ use Rattle.member.specs.Member.{Prepared, prepare}
 use Rattle.shared.specs.Shared.{sharedFrom, compare}
 use Rattle.target.specs.Titles.{titleNamed}
 use Rattle.emission.specs.Emit.{emit, joinLines}
-use Rattle.assembly.specs.Assemble.{prepareAll, emitAll, assemblePrepared, assemble}
-use Rattle.assembly.specs.Assembled.{preparedAll, joinedAll, assembledText, eachFaults, eachMade, present, preparedFaults, assemblyFaults, joins, assemblyRunning}
+use Rattle.assembled.specs.Assemble.{prepareAll, emitAll, assemblePrepared, assemble}
+use Rattle.assembled.specs.Assembled.{preparedAll, joinedAll, assembledText, eachFaults, eachMade, present, preparedFaults, assemblyFaults, joins, assemblyRunning}
 
 -- ---- what it makes
 
@@ -177,3 +177,17 @@ module _ (f : List ℕ → ℕ) (n : ℕ) where
       let z = weigh-go-le f n (prepareAll hs) (λ ms. go (part (compare ms)) (λ us. assemblePrepared url us)) 0 (total f (assemblyRunning url hs)) (prepareAll-weigh-le hs) (λ ms e.
       rw (sym (prepareAll-made hs) ∙ e) (compared-weigh-le url ms)) in
       omega arith
+
+-- ---- the text is the last of the running texts
+
+joined-running : (f : Prepared → Part (List (List ℕ))) (ms : List Prepared) (ls : List (List ℕ)) (t : List ℕ) → joinedAll f ms ls ≡ some t → List·Memᴰ t (joins f ms ls)
+unfolding joinedAll joins
+joined-running f [] ls t e = let q : join LF ls ++ (LF ∷ []) ≡ t = cc in List·Memᴰ·head (sym q)
+joined-running f (m ∷ ms) ls t e = made-by (partMade (f m)) (λ es. joinedAll f ms (joinLines ls es)) t e (λ es i k. rw i (List·Memᴰ·tail (joined-running f ms (joinLines ls es) t k)))
+
+pub assembled-running : (url : List ℕ) (hs : List File) (t : List ℕ) → assembledText url hs ≡ some t → List·Memᴰ t (assemblyRunning url hs)
+unfolding assembledText
+assembled-running url hs t e =
+    made-by (preparedAll hs) (λ ms. andThen (partMade (compare ms)) (λ us. joinedAll (emit (titleNamed us) url) us [])) t e (λ ms i k.
+    made-by (partMade (compare ms)) (λ us. joinedAll (emit (titleNamed us) url) us []) t k (λ us j l.
+    rw (i, j) (joined-running (emit (titleNamed us) url) us [] t l)))

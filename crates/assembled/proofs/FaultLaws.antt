@@ -21,7 +21,7 @@ use Rattle.member.specs.Member.{Prepared, titleOf, titled, preparedLines, prepa
 use Rattle.shared.specs.Shared.{earlier, sharedAt, sharedLine, sharedIn, sharedFrom}
 use Rattle.target.specs.Titles.{titleNamed}
 use Rattle.emission.specs.Emit.{emit}
-use Rattle.assembly.specs.Assembled.{eachFaults, eachMade, present, preparedFaults, assemblyFaults}
+use Rattle.assembled.specs.Assembled.{eachFaults, eachMade, present, preparedFaults, assemblyFaults}
 
 -- 18
 prepare-fault : (h : File) → allFaults (partFaults (prepare h)) ≡ true

@@ -20,7 +20,7 @@ use Rattle.path.specs.Path.{step, walked, resolve}
 use Rattle.link.specs.Target.{targetOf, rewriteTarget, anchorSelf}
 use Rattle.walk.specs.Steps.{go, judge}
 use Rattle.shift.specs.Shift.{toldFrom, pastFrom, upTo}
-use Rattle.assembly.specs.Assemble.{prepareAll, emitAll, assemble}
+use Rattle.assembled.specs.Assemble.{prepareAll, emitAll, assemble}
 use Rattle.member.specs.Member.{withoutContents, preparedLines, titleOf, prepare, movable}
 use Rattle.shared.specs.Shared.{lineOf, earlier, sharedIn, sharedFrom}
 use Rattle.target.specs.Titles.{titleNamed}

@@ -1,13 +1,9 @@
 -- Document 01, "Assembly and book": the walk of an assembly, without its limit.
 use Prim.Native.Nat.{ℕ}
 use mathlib.Core.List.{List, [], _∷_, _++_}
-use lib.ListN.{take}
 use Rattle.answer.specs.Answer.{place}
 use Rattle.text.specs.Lines.{LF}
 use Rattle.text.specs.Split.{join}
-use Rattle.walk.specs.Outcome.{Outcome, text, refusal}
-use Rattle.assembly.specs.declared.Assembled.{Assembled}
-use Rattle.assembly.specs.declared.Assembled.the-variants.{Text, Refused}
 use Rattle.walk.specs.Parts.{Part}
 use Rattle.walk.specs.Steps.{Steps, done, sized, go, part}
 use Rattle.index.specs.Index.{File}
@@ -31,8 +27,3 @@ assemblePrepared url ms = emitAll (emit (titleNamed ms) url) 0 ms []
 
 unfoldable pub assemble : List ℕ → List File → Steps (List ℕ)
 assemble url hs = go (prepareAll hs) (λ ms. go (part (compare ms)) (λ us. assemblePrepared url us))
-
--- an assembly's answer, with the buffer that begins with its text and the files taken in before
-abbrev pub readAssembled : ℕ → Assembled → List ℕ → Outcome
-readAssembled files (Text n) w = text (take n w) files
-readAssembled files (Refused x) w = refusal x
