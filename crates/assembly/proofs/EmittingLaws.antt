@@ -26,11 +26,11 @@ use Rattle.members.specs.Members.{memberAt, textSource, preparedIn, preparedFro
 use Rattle.members.specs.declared.Member.{Member}
 use Rattle.target.specs.Titles.{titleNamed, titlesIn}
 use Rattle.emission.specs.Emission.{emittedLines, emittedText}
-use Rattle.assembly.specs.Assemble.{assemblePrepared, readAssembled}
+use Rattle.assembled.specs.Assemble.{assemblePrepared}
 use Rattle.emission.specs.Emit.{emit}
 use Rattle.assembly.specs.declared.Assembled.{Assembled}
 use Rattle.assembly.specs.declared.Assembled.the-variants.{Text, Refused}
-use Rattle.assembly.specs.Parts.{ruleBefore, emitIn, targetIn, putAnswer, CanEmit, Running, Added, AddedBehind}
+use Rattle.assembly.specs.Parts.{readAssembled, ruleBefore, emitIn, targetIn, putAnswer, CanEmit, Running, Added, AddedBehind}
 use Rattle.assembly.proofs.StandLaws.{emit-on, members-on, member-on, emitted-some}
 use Rattle.assembly.proofs.TurnLaws.{shifted-good, shifted-past, behind-stops, behind-put, last-put}
 

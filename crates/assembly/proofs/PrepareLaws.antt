@@ -23,7 +23,7 @@ use Rattle.members.specs.Members.{memberAt, numbersOf, nameOf, fileIn, prepared
 use Rattle.members.specs.declared.Member.{Member}
 use Rattle.members.proofs.MembersLaws.{member-put-same, member-put-other, prepares, all-stand}
 use Rattle.shared.specs.Shared.{sharedFrom}
-use Rattle.assembly.specs.Assemble.{prepareAll, assemblePrepared, assemble}
+use Rattle.assembled.specs.Assemble.{prepareAll, assemblePrepared, assemble}
 use Rattle.assembly.specs.Parts.{CanPrepare, SameFile, ArePrepared}
 
 module _ (index contents work old new : List ℕ) where

@@ -10,7 +10,7 @@ use Rattle.text.specs.Split.{join}
 use Rattle.text.proofs.LedLaws.{join-led, text-more}
 use Rattle.emission.specs.Emit.{joinLines}
 use Rattle.assembly.specs.Parts.{ruleBefore}
-use Rattle.assembly.proofs.EmitLaws.{Ends, line}
+use Rattle.assembled.proofs.EmitLaws.{Ends, line}
 
 -- such lines are some
 pub ends-some : (es : List (List ℕ)) → Ends line es → 0 < length es

@@ -18,7 +18,7 @@ use Rattle.members.specs.declared.Member.{Member}
 use Rattle.members.proofs.MembersLaws.{source-up, source-on, text-part, prepared-same, prepared-on, prepares}
 use Rattle.emission.specs.Emit.{emit}
 use Rattle.assembly.specs.Parts.{CanPrepare, CanEmit}
-use Rattle.assembly.proofs.EmitLaws.{emitted-ends}
+use Rattle.assembled.proofs.EmitLaws.{emitted-ends}
 use Rattle.assembly.proofs.RuleLaws.{ends-some}
 
 -- more of the work buffer is allowed

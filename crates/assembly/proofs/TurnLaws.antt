@@ -30,9 +30,9 @@ use Rattle.member.specs.Outline.{ShiftBelow}
 use Rattle.emission.specs.Emit.{emit, joinLines}
 use Rattle.emission.specs.Emission.{emittedLines}
 use Rattle.emission.proofs.EmitLaws.{emit-good, emit-past}
-use Rattle.assembly.specs.Assemble.{emitAll, readAssembled}
+use Rattle.assembled.specs.Assemble.{emitAll}
 use Rattle.assembly.specs.declared.Assembled.the-variants.{Text, Refused}
-use Rattle.assembly.specs.Parts.{ruleBefore, putAnswer, Running, AddedBehind, AssembledWithin}
+use Rattle.assembly.specs.Parts.{readAssembled, ruleBefore, putAnswer, Running, AddedBehind, AssembledWithin}
 use Rattle.assembly.proofs.RuleLaws.{join-rule, join-some}
 
 -- ---- one member, by whether a heading goes past level 6

@@ -13,7 +13,7 @@ use Rattle.member.specs.Member.{Prepared}
 use Rattle.members.specs.Members.{filesFrom, preparedFrom, AllLie, AllStand}
 use Rattle.members.proofs.MembersLaws.{prepared-up}
 use Rattle.shared.specs.Shared.{sharedFrom}
-use Rattle.assembly.specs.Assemble.{prepareAll, assemblePrepared, assemble}
+use Rattle.assembled.specs.Assemble.{prepareAll, assemblePrepared, assemble}
 use Rattle.assembly.specs.Parts.{ArePrepared, CanEmit}
 use Rattle.assembly.proofs.PrepareLaws.{prepared-all, prepared-stand, assemble-stops, assemble-shares, assemble-goes}
 use Rattle.assembly.proofs.StandLaws.{stand-wide, can-emit}

@@ -10,6 +10,7 @@ use Rattle.text.specs.Pattern.{bytes}
 use Rattle.text.specs.Split.{join}
 use Rattle.path.specs.Path.{parentDir}
 use Rattle.link.specs.Target.{rewriteTarget}
+use Rattle.walk.specs.Outcome.{Outcome, text, refusal}
 use Rattle.walk.specs.Parts.{Part}
 use Rattle.walk.specs.Steps.{Steps, failed, refused, judge}
 use Rattle.put.specs.Put.{Inside}
@@ -20,11 +21,16 @@ use Rattle.members.specs.Members.{memberAt, nameOf, filesFrom, AllStand, AllKno
 use Rattle.members.specs.declared.Member.{Member}
 use Rattle.target.specs.Titles.{titlesIn}
 use Rattle.emission.specs.Emit.{emit}
-use Rattle.assembly.specs.Assemble.{prepareAll, emitAll}
+use Rattle.assembled.specs.Assemble.{prepareAll, emitAll}
 use Rattle.assembly.specs.declared.Assembled.{Assembled}
 use Rattle.assembly.specs.declared.Assembled.the-variants.{Text, Refused}
 use Rattle.assembly.specs.declared.Ready.{Ready}
 use Rattle.assembly.specs.declared.Ready.the-variants.{All, Refused as Stopped}
+
+-- an assembly's answer, with the buffer that begins with its text and the files taken in before
+abbrev pub readAssembled : ℕ → Assembled → List ℕ → Outcome
+readAssembled files (Text n) w = text (take n w) files
+readAssembled files (Refused x) w = refusal x
 
 -- the text of an answer is within the limit
 abbrev pub AssembledWithin : Assembled → ℕ → Type 0

@@ -2,7 +2,7 @@
 use Prim.Native.Nat.{ℕ, _+_, _≤_}
 use native.Mathlib.Omega.{arith}
 use mathlib.Core.Path.{_≡_, refl, sym, _∙_}
-use mathlib.Core.List.{List, [], _∷_, map}
+use mathlib.Core.List.{List, [], _∷_, map, List·Memᴰ}
 use mathlib.Core.Option.{Option, none, some}
 use lib.ListN.{length}
 use Rattle.answer.specs.declared.Refusal.{Refusal}
@@ -16,9 +16,9 @@ use Rattle.chains.specs.Chains.{Chain, start, starts, made, running}
 use Rattle.chains.proofs.ChainLaws.{extended, longer}
 use Rattle.chains.specs.Fill.{walk}
 use Rattle.chains.proofs.ChainLaws.{walk-made, flaws, made-flaws, reached, faultsOf, walk-flaw, sums, walk-weigh, walk-weigh-le}
-use Rattle.assembly.specs.Assemble.{assemble}
-use Rattle.assembly.specs.Assembled.{assembledText}
-use Rattle.assembly.proofs.AssembleLaws.{assemble-made, assemble-flaws, assemble-flaw, assemble-weigh, assemble-weigh-le}
+use Rattle.assembled.specs.Assemble.{assemble}
+use Rattle.assembled.specs.Assembled.{assembledText}
+use Rattle.assembled.proofs.AssembleLaws.{assemble-made, assemble-flaws, assemble-flaw, assemble-weigh, assemble-weigh-le, assembled-running}
 use Rattle.book.specs.BookWalk.{walkAll, book}
 use Rattle.book.specs.Book.{membersOf, withTexts, madeAll, bookText, madeMembers, bookFaults, bookRunning}
 
@@ -152,3 +152,9 @@ book-sizes-le f S M url =
     let h = book-weigh-le f 0 S M url in
     let z = zero-total (λ d. 0) (extended (starts S M)) (λ d m. refl) in
     omega arith
+
+-- ---- the text is one of the running texts
+
+pub book-running : (S : List File) (M url : List ℕ) (t : List ℕ) → bookText S M url ≡ some t → List·Memᴰ t (bookRunning S M url)
+unfolding bookText
+book-running S M url t e = made-by (madeAll (starts S M)) (λ ts. assembledText url (withTexts (membersOf S M) ts)) t e (λ ts i k. rw i (assembled-running url (withTexts (membersOf S M) ts) t k))

@@ -21,7 +21,7 @@ use Rattle.chains.proofs.Paths.{same-self, same-equal, pickN, everywhere, nowhe
 use Rattle.walk.proofs.FaultLaws.{faultNumber, isFault, fault-not, all-member}
 use Rattle.chains.proofs.CountLaws.{count-unique}
 use Rattle.chains.proofs.FaultLaws.{chain-at-fault}
-use Rattle.assembly.proofs.FaultLaws.{assembly-fault}
+use Rattle.assembled.proofs.FaultLaws.{assembly-fault}
 use Rattle.book.specs.BookWalk.{book}
 use Rattle.book.specs.Book.{bookText, madeMembers, bookFaults, bookRunning, Sound}
 use Rattle.book.specs.Demand.{numbersOf, Faulty, Overlong, Reason}

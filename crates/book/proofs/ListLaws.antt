@@ -12,7 +12,7 @@ use Rattle.fileset.specs.Members.{names, recordFound, membersFrom, members, abs
 use Rattle.fileset.specs.Check.{bookChecked}
 use Rattle.fileset.specs.declared.check.Checked.the-variants.{Passed}
 use Rattle.fileset.proofs.PassedLaws.{book-named}
-use Rattle.filling.proofs.FilesLaws.{find-files, find-name}
+use Rattle.chains.proofs.GrowLaws.{find-files, find-name}
 use Rattle.book.specs.Book.{membersOf}
 
 listed-names : (contents : List ℕ) (rs : List Record) (n : ℕ) (ls : List (List ℕ)) → 0 < n → absentFrom n rs ls ≡ 0

@@ -8,7 +8,7 @@ use Rattle.answer.specs.declared.Refusal.{Refusal}
 use Rattle.index.specs.Index.{File, fileOf}
 use Rattle.walk.specs.Parts.{andThen, ifMade}
 use Rattle.chains.specs.Chains.{Chain, fileAt, start, starts, chainAt, made, faults, running, CountsChains}
-use Rattle.assembly.specs.Assembled.{assembledText, assemblyFaults, assemblyRunning}
+use Rattle.assembled.specs.Assembled.{assembledText, assemblyFaults, assemblyRunning}
 
 -- S is the file set, and M has the record of each list line, counted from 0
 

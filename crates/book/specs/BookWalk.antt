@@ -5,7 +5,7 @@ use Rattle.index.specs.Index.{File}
 use Rattle.walk.specs.Steps.{Steps, done, go}
 use Rattle.chains.specs.Chains.{Chain, starts}
 use Rattle.chains.specs.Fill.{walk}
-use Rattle.assembly.specs.Assemble.{assemble}
+use Rattle.assembled.specs.Assemble.{assemble}
 use Rattle.book.specs.Book.{membersOf, withTexts}
 
 -- "The book fills each member, B running on through the list, keeps its text on "no region""

@@ -13,7 +13,7 @@ use Rattle.walk.specs.Steps.{judge}
 use Rattle.chains.specs.Chains.{startAt}
 use Rattle.walk.specs.Outcome.{Outcome, text, noRegion, refusal, outcome}
 use Rattle.chains.specs.Fill.{filled}
-use Rattle.assembly.specs.Assemble.{assemble}
+use Rattle.assembled.specs.Assemble.{assemble}
 use Rattle.book.specs.Book.{membersOf}
 use Rattle.book.specs.BookWalk.{book}
 

@@ -1,5 +1,5 @@
--- Demand 3, stated. S is the file set that an index and contents give, M the record of each list line. `Sound`, `bookText`, `bookFaults` and `bookRunning` are defined in `Book`;
--- chains, their faults and their running texts in `Chains` of the crate `chains`. None of these knows of B, of L or of what the walk answers.
+-- Demand 3, stated on outcomes; the crate `demands` states it of calls. S is the file set that an index and contents give, M the record of each list line. `Sound`, `bookText`, `bookFaults` and `bookRunning` are
+-- defined in `Book`; chains, their faults and their running texts in `Chains` of the crate `chains`. None of these knows of B, of L or of what the walk answers.
 use Prim.Native.Nat.{ℕ, _≤_, _<_}
 use mathlib.Core.List.{List, List·Memᴰ}
 use mathlib.Core.Logic.{_⊎_, _↔_}
@@ -53,7 +53,7 @@ pub record Reason (B L : ℕ) (S : List File) (M url : List ℕ) (x : Refusal) :
   pub faulty : (number x ≡ 15 → ⊥) → (number x ≡ 17 → ⊥) → Faulty S M url x
 
 -- for every index, contents, list and URL, and all sizes, limits and allowances with nothing refused before the walk
-pub record Demand3 (index contents list url : List ℕ) : Type 0 where
+pub record OutcomeDemand3 (index contents list url : List ℕ) : Type 0 where
   -- "The book is given exactly when nothing reached has a fault, the files taken in are within the allowance and no running text passes the limit"
   pub exactly-when : (L B out work : ℕ) → bookChecked index contents list url L out work ≡ Passed
       → ((t : List ℕ) × (n : ℕ) × (bookOutcome index contents list url L B out work ≡ text t n)) ↔ Sound B L (fileSet index contents) (listed index list) url

@@ -1,4 +1,1 @@
-// The calls fill, assembly and book. The book is so far a definition, in specs/, with the proof of demand 3.
-pub mod assemble;
-pub mod fill;
-mod give;
+// The book, what the calls answer, and demand 3 with its proof: definitions, in specs/.

@@ -1,16 +1,17 @@
--- How far a chain may go on never bounds it: the count of files not on the chain does not run out. Assumes nothing.
+-- A name among the files of a set; and how far a chain may go on never bounds it: the count of files not on the chain does not run out. Assumes nothing.
 use Prim.Native.Nat.{ℕ, zero, suc, _+_, _≤_, _<_}
 use native.Mathlib.Nat.{le-of-suc-le-suc, not-suc-le-zero}
 use native.Mathlib.Omega.{arith}
-use mathlib.Core.Path.{_≡_, refl, _∙_, ap}
+use mathlib.Core.Path.{_≡_, refl, sym, _∙_, ap}
 use mathlib.Core.Bool.{Bool, true, false, cond}
 use mathlib.Core.List.{List, [], _∷_}
 use lib.ListN.{length, getD, set, length-set}
 use Rattle.text.specs.Pattern.{equals, later}
 use Rattle.text.specs.declared.pattern.Found.{Found}
 use Rattle.text.specs.declared.pattern.Found.the-variants.{At, Nothing}
+use Rattle.text.proofs.PatternLaws.{equals-same}
 use Rattle.answer.specs.declared.Refusal.the-variants.{OnChain}
-use Rattle.index.specs.Index.{File, firstNamed, findFile}
+use Rattle.index.specs.Index.{Record, File, filesFrom, firstNamed, findRecord, findFile}
 use Rattle.regions.specs.Regions.{HostRegion, Regions, behind, region, Scanned, problem, noRegion, regions, scanned}
 use Rattle.chains.specs.Chains.{Chain, wrong, host, fileAt, Next, stop, on, next, nextFound, branch, through, found, grow, free, chain}
 
@@ -35,6 +36,24 @@ find-within name (f ∷ S) d e = go (equals name (f .name)) (findFile name S) re
     go true o q h ih = let z : 0 ≡ d = cc in omega arith
     go false (At k) q h ih = let z : 1 + k ≡ d = cc in omega (arith, ih k q)
     go false Nothing q h ih = let z : _≡_ {A = ℕ} 0 1 = cc in absurd (omega arith)
+
+-- a name is looked for among the files as among the records
+pub find-files : (name : List ℕ) (k : ℕ) (contents : List ℕ) (rs : List Record) → findFile name (filesFrom k contents rs) ≡ findRecord name rs
+unfolding filesFrom firstNamed
+find-files name k contents [] = refl
+find-files name k contents (r ∷ rs) = ap (λ (o : Found). cond (equals name (r .name)) (At 0) (later 1 o)) (find-files name (k + 1) contents rs)
+
+-- the file that is found has the name
+pub find-name : (name : List ℕ) (S : List File) (d : ℕ) → findFile name S ≡ At d → fileAt S d .name ≡ name
+unfolding firstNamed
+find-name name [] d e = let z : _≡_ {A = ℕ} 0 1 = cc in absurd (omega arith)
+find-name name (f ∷ S) d e = go (equals name (f .name)) refl (findFile name S) refl e (find-name name S)
+  where
+    go : (b : Bool) → equals name (f .name) ≡ b → (o : Found) → findFile name S ≡ o → cond b (At 0) (later 1 o) ≡ At d → ((k : ℕ) → findFile name S ≡ At k → fileAt S k .name ≡ name)
+        → fileAt (f ∷ S) d .name ≡ name
+    go true q o p h ih = let z : 0 ≡ d = cc in rw (← z) (sym (equals-same name (f .name) q))
+    go false q (At k) p h ih = let z : 1 + k ≡ d = cc in let y : suc k ≡ d = omega arith in rw (← y) (ih k p)
+    go false q Nothing p h ih = let z : _≡_ {A = ℕ} 0 1 = cc in absurd (omega arith)
 
 -- a region leads on only to a file of S that is not on the chain
 pub next-free : (S : List File) (top : List ℕ) (m : List Bool) (g : HostRegion) (d : ℕ) → next S top m g ≡ on d → (d < length S) × (getD m d false ≡ false)

@@ -1,20 +1,18 @@
--- The files that rows tell of, one by one, and a name among them. Assumes nothing.
+-- The files that rows tell of, one by one, and the file that a name leads to. Assumes nothing.
 use Prim.Native.Nat.{ℕ, zero, suc, _+_, _≤_, _<_}
 use native.Mathlib.Nat.{add-zero}
 use native.Mathlib.Omega.{arith}
-use mathlib.Core.Path.{_≡_, refl, sym, _∙_, ap}
-use mathlib.Core.Bool.{Bool, true, false, cond}
-use mathlib.Core.List.{List, [], _∷_}
+use mathlib.Core.Path.{_≡_, sym, _∙_}
+use mathlib.Core.Bool.{Bool, true, false}
+use mathlib.Core.List.{List}
 use lib.ListN.{length, getD}
 use borrow.Author.Tests.{lt-ltb, le-ltb}
 use Rattle.text.specs.Bytes.{part}
-use Rattle.text.specs.Pattern.{equals, later}
+use Rattle.text.specs.Pattern.{equals}
 use Rattle.answer.specs.declared.Place.{Place}
 use Rattle.answer.specs.declared.Refusal.the-variants.{OnChain, Absent, Allowance}
-use Rattle.text.specs.declared.pattern.Found.{Found}
 use Rattle.text.specs.declared.pattern.Found.the-variants.{At, Nothing}
-use Rattle.text.proofs.PatternLaws.{equals-same}
-use Rattle.index.specs.Index.{Record, File, fileOf, fileText, filesFrom, firstNamed, findRecord, findFile}
+use Rattle.index.specs.Index.{fileOf, fileText, filesFrom, findRecord}
 use Rattle.index.specs.Rows.{rowAt, recordOf, recordsIn}
 use Rattle.index.specs.declared.rows.Row.{Row}
 use Rattle.index.proofs.RowsLaws.{files-length, records-length, row-forward, row-within, row-fits}
@@ -22,25 +20,7 @@ use Rattle.chains.specs.Chains.{fileAt, nextNamed}
 use Rattle.filling.specs.Filling.{filesIn, Ready, namedOf, Lies}
 use Rattle.filling.specs.declared.Named.{Named}
 use Rattle.filling.specs.declared.Named.the-variants.{File as Names, Refused as Unnamed}
-use Rattle.chains.proofs.GrowLaws.{find-within}
-
--- a name is looked for among the files as among the records
-pub find-files : (name : List ℕ) (k : ℕ) (contents : List ℕ) (rs : List Record) → findFile name (filesFrom k contents rs) ≡ findRecord name rs
-unfolding filesFrom firstNamed
-find-files name k contents [] = refl
-find-files name k contents (r ∷ rs) = ap (λ (o : Found). cond (equals name (r .name)) (At 0) (later 1 o)) (find-files name (k + 1) contents rs)
-
--- the file that is found has the name
-pub find-name : (name : List ℕ) (S : List File) (d : ℕ) → findFile name S ≡ At d → fileAt S d .name ≡ name
-unfolding firstNamed
-find-name name [] d e = let z : _≡_ {A = ℕ} 0 1 = cc in absurd (omega arith)
-find-name name (f ∷ S) d e = go (equals name (f .name)) refl (findFile name S) refl e (find-name name S)
-  where
-    go : (b : Bool) → equals name (f .name) ≡ b → (o : Found) → findFile name S ≡ o → cond b (At 0) (later 1 o) ≡ At d → ((k : ℕ) → findFile name S ≡ At k → fileAt S k .name ≡ name)
-        → fileAt (f ∷ S) d .name ≡ name
-    go true q o p h ih = let z : 0 ≡ d = cc in rw (← z) (sym (equals-same name (f .name) q))
-    go false q (At k) p h ih = let z : 1 + k ≡ d = cc in let y : suc k ≡ d = omega arith in rw (← y) (ih k p)
-    go false q Nothing p h ih = let z : _≡_ {A = ℕ} 0 1 = cc in absurd (omega arith)
+use Rattle.chains.proofs.GrowLaws.{find-files, find-within}
 
 module _ (index rows contents : List ℕ) where
   pub set-length : (n : ℕ) → length (filesIn index rows contents n) ≡ n

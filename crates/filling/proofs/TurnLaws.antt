@@ -32,7 +32,7 @@ use Rattle.walk.specs.Outcome.{Outcome, text, noRegion, refusal, outcome}
 use Rattle.chains.specs.Fill.{walk, walkRest}
 use Rattle.filling.specs.Filling.{withFiles, namedOf, Entry, enters, barred, entered, joinedEntry, entryOf, embeddedBy, Running, Turned}
 use Rattle.chains.proofs.FillLaws.{orFault, fitting, judgeAfter, judgeNext, judge-region, judge-last}
-use Rattle.filling.proofs.FilesLaws.{find-name}
+use Rattle.chains.proofs.GrowLaws.{find-name}
 
 clash : true ≡ false → ⊥
 clash e = let z : _≡_ {A = ℕ} 0 1 = cc in omega arith

@@ -9,7 +9,8 @@ use mathlib.Core.List.{List, [], _∷_, map}
 use lib.ListN.{length, take, getD}
 use lib.Seq.{sets, getD-take}
 use borrow.Author.Count.{below-more}
-use Rattle.text.specs.Bytes.{part}
+use Rattle.text.specs.Bytes.{part, is, count}
+use Rattle.text.specs.Lines.{LF}
 use Rattle.text.specs.Pattern.{isAt}
 use Rattle.text.specs.declared.pattern.Found.{Found}
 use Rattle.text.specs.declared.pattern.Found.the-variants.{At, Nothing}
@@ -19,12 +20,12 @@ use Rattle.index.proofs.RowsLaws.{files-length}
 use Rattle.fileset.specs.Members.{names, absentFrom, recordFound, membersFrom, members}
 use Rattle.fileset.specs.Check.{bookChecked, Passes, Listed}
 use Rattle.fileset.specs.declared.check.Checked.the-variants.{Passed}
-use Rattle.fileset.proofs.CheckLaws.{rows-same}
+use Rattle.fileset.proofs.CheckLaws.{rows-named}
 use Rattle.fileset.proofs.PassedLaws.{book-named}
 use Rattle.chains.specs.Chains.{fileAt}
-use Rattle.chains.proofs.GrowLaws.{find-within}
-use Rattle.filling.specs.Filling.{filesIn}
-use Rattle.filling.proofs.FilesLaws.{find-files, row-file}
+use Rattle.chains.proofs.GrowLaws.{find-files, find-within}
+use Rattle.filling.specs.Filling.{filesIn, Ready}
+use Rattle.filling.proofs.FilesLaws.{row-file}
 use Rattle.members.specs.Members.{memberAt, numbersOf, nameOf, fileIn, filesFrom, Lies, AllLie}
 use Rattle.members.specs.declared.Member.{Member}
 use Rattle.members.proofs.MembersLaws.{put-length, member-put-same, member-put-other}
@@ -76,7 +77,17 @@ module _ {rows lines set set' : List ℕ} {i : ℕ} (few : i < 64) {m : Member} 
   pub files-more : AreFiles rows lines set' (i + 1)
   files-more = record { whole = ap length w ∙ put-length set i m ∙ a .whole; same = below-more (λ k. memberAt set' k ≡ lineMember rows lines k) i before here }
 
--- once the checks pass, of the n lines of the list
+-- such a member stands in the contents
+pub line-stands : {rows lines set : List ℕ} {n : ℕ} → AreFiles rows lines set n → (i : ℕ) → i < n → memberAt set i .source .work ≡ false
+line-stands s i h = ap (λ (m : Member). m .source .work) (s .same i h)
+
+-- once the checks pass, the rows can be read
+pub rows-ready : {index contents rows : List ℕ} {n : ℕ} → Passes index contents rows → n ≡ count (is LF) index → Ready index rows (length contents) n
+rows-ready {index} {contents} {rows} {n} q c =
+    let e : n ≡ length (records index) = c ∙ q .lines in
+    record { few = omega (arith, q .few); named = rows-named (q .told) e; within = rw e (q .within) }
+
+-- and of the n lines of the list
 module _ (index contents list url rows lines : List ℕ) (limit out work n : ℕ) (p : bookChecked index contents list url limit out work ≡ Passed)
     (q : Passes index contents rows) (l : Listed (records index) list lines Passed) (c : n ≡ length (names list)) where
   line-member : (i : ℕ) → i < n → getD (members (records index) list) i 0 ≡ getD lines i 0

@@ -12,7 +12,7 @@ use put::Source;
 use shift::level::Levels;
 
 // What is known before a member is prepared.
-fn no_outline() -> Outline
+pub fn no_outline() -> Outline
     ensures { λ r. ⌜ r ≡ noOutline ⌝ }
 {
     let levels = Levels {

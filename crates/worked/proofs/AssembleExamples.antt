@@ -32,7 +32,7 @@ use Rattle.member.specs.Member.{withoutContents, preparedLines, titleOf, prepar
 use Rattle.shared.specs.Shared.{lineOf as anchorLine, earlier, sharedIn, sharedFrom}
 use Rattle.target.specs.Titles.{titleNamed}
 use Rattle.emission.specs.Emit.{emit}
-use Rattle.assembly.specs.Assemble.{prepareAll, emitAll, assemble}
+use Rattle.assembled.specs.Assemble.{prepareAll, emitAll, assemble}
 use Rattle.book.specs.Calls.{assembleOutcome}
 
 -- an assembly with buffers of just the size that L asks for

@@ -35,8 +35,8 @@ use Rattle.embedding.specs.Embed.{isMarker, unmarkedFrom, embeddedLines, embedT
 use Rattle.chains.specs.Fill.{walk, walkRest}
 use Rattle.regions.specs.Regions.{problemsOf, isWithin, blankedFrom, lastLevel, regionsFrom, scanned}
 use Rattle.shift.specs.Shift.{toldFrom, pastFrom as pastFrom-of-shift, upTo, blanks}
-use Rattle.assembly.specs.Assemble.{prepareAll, emitAll, assemble}
-use Rattle.assembly.specs.Assembled.{preparedAll, joinedAll, assembledText, eachFaults, eachMade, present, joins}
+use Rattle.assembled.specs.Assemble.{prepareAll, emitAll, assemble}
+use Rattle.assembled.specs.Assembled.{preparedAll, joinedAll, assembledText, eachFaults, eachMade, present, joins}
 use Rattle.member.specs.Member.{withoutContents, preparedLines, titleOf, prepare, movable}
 use Rattle.shared.specs.Shared.{lineOf as lineOf-of-assemblyMember, earlier, sharedIn, sharedFrom}
 use Rattle.target.specs.Titles.{titleNamed}

@@ -1,0 +1,4 @@
+pub mod AssembleLaws
+pub mod Checks
+pub mod FaultLaws
+pub mod EmitLaws

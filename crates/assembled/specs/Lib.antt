@@ -1,0 +1,2 @@
+pub mod Assemble
+pub mod Assembled

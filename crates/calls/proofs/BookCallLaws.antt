@@ -1,0 +1,54 @@
+-- Laws of the call book: its answer by what was made and assembled, once the checks pass. Assumes nothing.
+use Prim.Native.Nat.{ℕ, suc, _+_, _*_, _≤_}
+use native.Mathlib.Nat.{suc-mul, mul-le-mul-right}
+use native.Mathlib.Numerals.{add-one}
+use native.Mathlib.Omega.{arith}
+use mathlib.Core.Path.{_≡_, _∙_, sym, ap}
+use mathlib.Core.List.{List}
+use lib.ListN.{length}
+use Rattle.answer.specs.declared.Answer.{Answer}
+use Rattle.answer.specs.declared.Answer.the-variants.{Accepted, NoRegion, Refused as RefusedBy}
+use Rattle.answer.specs.declared.Refusal.{Refusal}
+use Rattle.fileset.specs.Check.{bookChecked}
+use Rattle.fileset.specs.declared.check.Checked.the-variants.{Passed, Refused as Stopped}
+use Rattle.fileset.proofs.PassedLaws.{book-fit}
+use Rattle.index.specs.Index.{File, records, files}
+use Rattle.fileset.specs.Members.{members}
+use Rattle.walk.specs.Steps.{Steps, judge}
+use Rattle.walk.specs.Outcome.{Outcome, refusal, outcome}
+use Rattle.assembled.specs.Assemble.{assemble}
+use Rattle.assembly.specs.Parts.{readAssembled, AssembledWithin}
+use Rattle.assembly.specs.declared.Assembled.{Assembled}
+use Rattle.assembly.specs.declared.Assembled.the-variants.{Text, Refused}
+use Rattle.book.specs.BookWalk.{book}
+use Rattle.book.specs.Calls.{bookOutcome}
+use Rattle.made.specs.Made.{bookOf, AreMade}
+use Rattle.made.proofs.BookLaws.{book-made}
+use Rattle.calls.specs.Given.{assembled, readAnswer, Fits}
+use Rattle.calls.proofs.AssembleCallLaws.{assembled-read, assemble-room}
+
+-- members that were made, assembled
+pub made-read : (B L : ℕ) (S hs : List File) (url : List ℕ) {fs : List File} {files : ℕ} (r : Assembled) (w : List ℕ) → AreMade B L S hs fs files
+    → ((C n : ℕ) → readAssembled n r w ≡ outcome (judge C L n (assemble url fs))) → readAnswer (assembled files r) w ≡ outcome (judge B L 0 (bookOf S hs url))
+made-read B L S hs url {fs} {files} r w a h = sym (assembled-read files r w) ∙ h B files ∙ ap outcome (sym (book-made B L S hs url a))
+
+pub assembled-within : (files : ℕ) (r : Assembled) (L : ℕ) → AssembledWithin r L → Fits (assembled files r) L L
+assembled-within files (Text n) L h = (h, h)
+assembled-within files (Refused x) L h = tt
+
+-- once the checks pass
+module _ (index contents list url : List ℕ) (limit out work : ℕ) (p : bookChecked index contents list url limit out work ≡ Passed) where
+  pub book-held : (r : Answer) → Fits r limit limit → Fits r out work
+  book-held (Accepted n f) h = (omega (arith, book-fit index contents list url limit out work p .1 .0), omega (arith, assemble-room index contents list url limit out work p .1))
+  book-held NoRegion h = tt
+  book-held (RefusedBy x) h = tt
+
+  pub book-passed : (B : ℕ) {o : Outcome} {w : Steps (List ℕ)} → w ≡ book (files index contents) (members (records index) list) url → o ≡ outcome (judge B limit 0 w)
+      → o ≡ bookOutcome index contents list url limit B out work
+  unfolding bookOutcome
+  book-passed B e h = rw (p, ← e) h
+
+pub book-stopped : (index contents list url : List ℕ) (limit B out work : ℕ) {x : Refusal} → Stopped x ≡ bookChecked index contents list url limit out work
+    → refusal x ≡ bookOutcome index contents list url limit B out work
+unfolding bookOutcome
+book-stopped index contents list url limit B out work e = rw (← e)

@@ -1,0 +1,4 @@
+pub mod GivenLaws
+pub mod FillCallLaws
+pub mod AssembleCallLaws
+pub mod BookCallLaws

@@ -1,0 +1,13 @@
+-- `in_work` meets its contract. Assumes nothing.
+use borrow.Author.Needs.{needs}
+use Rattle.made.proofs.in_work.Statement.{statement}
+use Rattle.made.proofs.in_work.Tie as tie
+
+no-outline-requires : tie.Need-no-outline-requires
+no-outline-requires c κs = search needs
+
+returns : tie.Need-returns
+returns c = rw (c .no-outline .ensures)
+
+pub in-work-spec : {M : Type 1} → statement M
+in-work-spec = tie.close (tie.spec no-outline-requires returns)
