@@ -22,7 +22,8 @@ use Rattle.member.specs.declared.lines.NextHeading.{NextHeading}
 use Rattle.members.specs.Members.{memberAt, nameOf, textSource, preparedIn, preparedFrom, AllStand}
 use Rattle.members.proofs.MembersLaws.{prepared-more, prepared-up, source-up, inside-part, inside-more, text-inside}
 use Rattle.shared.specs.Shared.{earlier, sharedIn}
-use Rattle.shared.specs.Marks.{Marks, TellsLines, Tells, SharedOf}
+use Rattle.marks.specs.Marks.{Marks}
+use Rattle.shared.specs.Tells.{TellsLines, Tells, SharedOf}
 use Rattle.shared.specs.declared.Shared.the-variants.{At}
 use Rattle.shared.proofs.LineLaws.{first-in, first-left, shared-none, shared-next, tells-plain, tells-append, upTo, left-up, tells-up, part-fits, part-text}
 use Rattle.shared.proofs.EarlierLaws.{lines-still, tells-still, tells-more, earlier-none}

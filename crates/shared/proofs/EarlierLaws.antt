@@ -23,7 +23,8 @@ use Rattle.members.specs.Members.{memberAt, nameOf, textSource, preparedIn, pre
 use Rattle.members.specs.declared.Member.{Member}
 use Rattle.members.proofs.MembersLaws.{prepared-at, prepared-end}
 use Rattle.shared.specs.Shared.{lineOf, earlier}
-use Rattle.shared.specs.Marks.{Marked, Marks, TellsKind, TellsLines, Tells}
+use Rattle.marks.specs.Marks.{Marked, Marks}
+use Rattle.shared.specs.Tells.{TellsKind, TellsLines, Tells}
 use Rattle.shared.proofs.LineLaws.{lines-none}
 
 pub equals-self : (s : List ℕ) → equals s s ≡ true

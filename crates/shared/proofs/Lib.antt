@@ -1,4 +1,3 @@
-pub mod MarksLaws
 pub mod LineLaws
 pub mod EarlierLaws
 pub mod CompareLaws

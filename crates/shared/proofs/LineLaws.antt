@@ -24,7 +24,8 @@ use Rattle.member.specs.Lines.{keptLines, leftOf, atFirst, CursorIn, IsPlain, P
 use Rattle.member.specs.declared.lines.LineCursor.{LineCursor}
 use Rattle.member.proofs.LinesLaws.{lines-on}
 use Rattle.shared.specs.Shared.{bears, lineOf, earlier, sharedAt, sharedLine, sharedIn}
-use Rattle.shared.specs.Marks.{Marked, TellsKind, TellsLines}
+use Rattle.marks.specs.Marks.{Marked}
+use Rattle.shared.specs.Tells.{TellsKind, TellsLines}
 
 -- a cursor before the first line has all lines kept left
 pub first-in : (s : List ℕ) → CursorIn atFirst s

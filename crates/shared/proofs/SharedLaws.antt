@@ -13,7 +13,7 @@ use Rattle.member.specs.Member.{Prepared}
 use Rattle.members.specs.Members.{memberAt, preparedIn, preparedFrom, AllStand}
 use Rattle.members.proofs.MembersLaws.{prepared-more, prepared-at, prepared-end, prepared-up, prepared-same, source-up}
 use Rattle.shared.specs.Shared.{sharedIn, sharedFrom}
-use Rattle.shared.specs.Marks.{Tells, SharedOf}
+use Rattle.shared.specs.Tells.{Tells, SharedOf}
 use Rattle.shared.specs.declared.Shared.{Shared}
 use Rattle.shared.specs.declared.Shared.the-variants.{Nowhere, At}
 

@@ -1,2 +1,2 @@
 pub mod Shared
-pub mod Marks
+pub mod Tells

@@ -9,14 +9,13 @@ ghost use Rattle.put.specs.Put.{sourceText, Inside};
 ghost use Rattle.member.specs.Lines.{keptLines};
 ghost use Rattle.members.specs.Members.{memberAt, nameOf, preparedIn, preparedFrom, AllStand};
 ghost use Rattle.shared.specs.Shared.{lineOf, earlier as earlierOf, sharedIn, sharedFrom};
-ghost use Rattle.shared.specs.Marks.{Tells, TellsAfter, SharedOf};
+ghost use Rattle.shared.specs.Tells.{Tells, TellsAfter, SharedOf};
 use answer::Place;
 use member::lines;
 use member::lines::NextHeading;
 use put::Source;
 use text::pattern;
 
-mod marks;
 mod read;
 
 // The places of a heading and of an earlier one with its anchor, or that there are none.

@@ -3,10 +3,10 @@ use Prim.Native.Nat.{_/_, _%_}
 use lib.ListN.{length}
 use native.Mathlib.Nat.{mod-lt}
 use native.Mathlib.Omega.{arith}
-use Rattle.shared.proofs.MarksLaws.{marks}
+use Rattle.marks.proofs.MarksLaws.{marks}
 use borrow.Author.Needs.{needs}
-use Rattle.shared.proofs.marks.mark_anchor.Statement.{statement}
-use Rattle.shared.proofs.marks.mark_anchor.Tie as tie
+use Rattle.marks.proofs.mark_anchor.Statement.{statement}
+use Rattle.marks.proofs.mark_anchor.Tie as tie
 
 mark-of-requires : tie.Need-mark-of-requires
 mark-of-requires c κs = search needs

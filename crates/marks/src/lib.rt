@@ -4,7 +4,7 @@
 ghost use mathlib.Core.Path.{_≡_};
 ghost use Prim.Native.Nat.{_≤_, _<_};
 ghost use lib.ListN.{length};
-ghost use Rattle.shared.specs.Marks.{Mark, Marks, markOf, printOf};
+ghost use Rattle.marks.specs.Marks.{Mark, Marks, markOf, printOf};
 
 const MANY: u8 = 255;
 

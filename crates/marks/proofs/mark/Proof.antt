@@ -3,10 +3,10 @@ use native.Mathlib.Omega.{arith}
 use mathlib.Core.Bool.{true, false, false≢true}
 use mathlib.Core.Path.{_≡_, sym, _∙_}
 use borrow.Author.Tests.{eqb-false}
-use Rattle.shared.proofs.MarksLaws.{mark-left, mark-free, mark-many}
+use Rattle.marks.proofs.MarksLaws.{mark-left, mark-free, mark-many}
 use borrow.Author.Needs.{needs}
-use Rattle.shared.proofs.marks.mark.Statement.{statement}
-use Rattle.shared.proofs.marks.mark.Tie as tie
+use Rattle.marks.proofs.mark.Statement.{statement}
+use Rattle.marks.proofs.mark.Tie as tie
 
 slice-read-old : tie.Need-slice-read-old
 slice-read-old c = search needs
