@@ -37,7 +37,7 @@ use Rattle.member.specs.Member.{movable}
 use Rattle.member.specs.Lines.{leftOf, atFirst, CursorIn, IsLine}
 use Rattle.member.specs.declared.lines.LineCursor.{LineCursor}
 use Rattle.member.proofs.LinesLaws.{lines-on}
-use Rattle.emission.proofs.LinkedLaws.{level-over, level-put, text-able, text-put}
+use Rattle.emission.proofs.LineLaws.{level-over, level-put, text-able, text-put}
 use Rattle.emission.specs.Emission.{emittedLine, emittedText, isTitle, kindAfter, breakBefore, levelOf}
 
 -- a line that is not quoted, by what stands before its text and by its text

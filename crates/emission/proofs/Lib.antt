@@ -1,4 +1,4 @@
-pub mod LinkedLaws
+pub mod LineLaws
 pub mod EmittedLaws
 pub mod BlockLaws
 pub mod PuttingLaws

@@ -6,7 +6,7 @@ use borrow.Author.Tests.{le-leb, lt-leb}
 use Rattle.text.specs.Bytes.{part}
 use Rattle.put.specs.Put.{sourceText}
 use Rattle.put.proofs.PutLaws.{able-on, source-same}
-use Rattle.emission.proofs.LinkedLaws.{nothing-put}
+use Rattle.emission.proofs.LineLaws.{nothing-put}
 use Rattle.emission.proofs.PuttingLaws.{break-over, broken, broken-put}
 use borrow.Author.Needs.{needs}
 use Rattle.emission.proofs.put_block.Statement.{statement}

@@ -1,6 +1,6 @@
 -- `emission::put_break` meets its contract. Assumes nothing.
 use native.Mathlib.Omega.{arith}
-use Rattle.emission.proofs.LinkedLaws.{break-none, break-full, break-put}
+use Rattle.emission.proofs.LineLaws.{break-none, break-full, break-put}
 use borrow.Author.Needs.{needs}
 use Rattle.emission.proofs.put_break.Statement.{statement}
 use Rattle.emission.proofs.put_break.Tie as tie

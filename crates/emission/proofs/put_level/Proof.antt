@@ -3,7 +3,7 @@ use mathlib.Core.Path.{sym, subst}
 use mathlib.Core.List.{List}
 use Prim.Native.Nat.{ℕ}
 use Rattle.put.specs.Put.{Wrote}
-use Rattle.emission.proofs.LinkedLaws.{level-none, level-some}
+use Rattle.emission.proofs.LineLaws.{level-none, level-some}
 use borrow.Author.Needs.{needs}
 use Rattle.emission.proofs.put_level.Statement.{statement}
 use Rattle.emission.proofs.put_level.Tie as tie

@@ -2,7 +2,7 @@
 use Rattle.heading.proofs.LevelLaws.{shift-kept}
 use Rattle.link.specs.Target.{rewriteTarget}
 use Rattle.target.specs.Titles.{titlesIn}
-use Rattle.emission.proofs.LinkedLaws.{all-on, rewriting-same}
+use Rattle.rewrite.proofs.LinkedLaws.{all-on, rewriting-same}
 use Rattle.emission.proofs.EmittedLaws.{open-line, new-level, new-order, new-end, new-over, new-able, new-reached, new-put}
 use borrow.Author.Needs.{needs}
 use Rattle.emission.proofs.put_line.Statement.{statement}

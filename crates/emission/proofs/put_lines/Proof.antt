@@ -8,7 +8,7 @@ use Rattle.heading.proofs.LevelLaws.{shift-kept}
 use Rattle.link.specs.Target.{rewriteTarget}
 use Rattle.put.proofs.PutLaws.{reached-length, able-on, able-read}
 use Rattle.target.specs.Titles.{titlesIn}
-use Rattle.emission.proofs.LinkedLaws.{all-on, rewriting-same}
+use Rattle.rewrite.proofs.LinkedLaws.{all-on, rewriting-same}
 use Rattle.emission.proofs.PuttingLaws.{Putting, putting-start, cursor-in, putting-end, block-bounds, block-over, putting-block, line-bounds, line-kind, line-less, line-over, putting-on}
 use Rattle.emission.proofs.put_lines.Statement.{statement}
 use Rattle.emission.proofs.put_lines.Tie as tie

@@ -10,7 +10,7 @@ use Rattle.put.specs.Put.{sourceText}
 use Rattle.put.proofs.PutLaws.{able-on, source-same}
 use Rattle.target.specs.Titles.{titlesIn}
 use Rattle.emission.specs.Emission.{emittedLine}
-use Rattle.emission.proofs.LinkedLaws.{all-on, rewriting-same}
+use Rattle.rewrite.proofs.LinkedLaws.{all-on, rewriting-same}
 use Rattle.emission.proofs.PuttingLaws.{break-over, broken, broken-put}
 use borrow.Author.Needs.{needs}
 use Rattle.emission.proofs.put_next.Statement.{statement}

@@ -1,13 +1,13 @@
--- `emission::put_links` meets its contract. The invariant: the source is put up to place i. Assumes nothing.
+-- `rewrite::put_links` meets its contract. The invariant: the source is put up to place i. Assumes nothing.
 use Prim.Native.Nat.{_-_}
 use native.Mathlib.Omega.{arith}
 use borrow.Author.Needs.{needs}
 use Rattle.link.specs.Target.{rewriteTarget}
 use Rattle.put.proofs.PutLaws.{reached-length, able-on, able-read}
 use Rattle.target.specs.Titles.{titlesIn}
-use Rattle.emission.proofs.LinkedLaws.{all-on, rewriting-same, Linking, linking-start, linking-end, link-bounds, link-over, link-before, target-able, target-over, linking-on}
-use Rattle.emission.proofs.put_links.Statement.{statement}
-use Rattle.emission.proofs.put_links.Tie as tie
+use Rattle.rewrite.proofs.LinkedLaws.{all-on, rewriting-same, Linking, linking-start, linking-end, link-bounds, link-over, link-before, target-able, target-over, linking-on}
+use Rattle.rewrite.proofs.put_links.Statement.{statement}
+use Rattle.rewrite.proofs.put_links.Tie as tie
 
 abbrev Inv-loop : tie.InvT-loop
 Inv-loop index contents url set count source dir work₀ limit n at₀ i₀ work at i = Linking (rewriteTarget (titlesIn index contents work₀ set count) url dir) source (record { at = at₀; limit = limit }) contents work₀ work at i

@@ -1,8 +1,8 @@
--- `emission::read::link_in` meets its contract: the link is sought where the source lies. Assumes nothing.
+-- `rewrite::read::link_in` meets its contract: the link is sought where the source lies. Assumes nothing.
 use native.Mathlib.Omega.{arith}
 use borrow.Author.Needs.{needs}
-use Rattle.emission.proofs.read.link_in.Statement.{statement}
-use Rattle.emission.proofs.read.link_in.Tie as tie
+use Rattle.rewrite.proofs.read.link_in.Statement.{statement}
+use Rattle.rewrite.proofs.read.link_in.Tie as tie
 
 sub-next-link : tie.Need-sub-next-link
 sub-next-link c = search needs
