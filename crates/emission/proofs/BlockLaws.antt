@@ -3,7 +3,7 @@ use Prim.Native.Nat.{ℕ, zero, suc, _+_, _-_, _≤_, _<_}
 use native.Mathlib.Numerals.{add-one}
 use native.Mathlib.Omega.{arith}
 use mathlib.Core.Path.{_≡_, refl, sym, ap, _∙_}
-use mathlib.Core.Bool.{Bool, true, false, cond, _||_}
+use mathlib.Core.Bool.{Bool, true, false, cond}
 use mathlib.Core.List.{List, [], _∷_, _++_, append-assoc}
 use lib.IntN.{ℤ}
 use lib.Dec.{leb}
@@ -19,9 +19,10 @@ use Rattle.fence.specs.declared.Fence.the-variants.{Outside, Ticks, Tildes}
 use Rattle.heading.specs.Walk.{stillKind}
 use Rattle.shift.specs.Shift.{Told}
 use Rattle.member.specs.Lines.{leftOf, CursorIn}
+use Rattle.member.specs.Seen.{titledBy}
 use Rattle.member.specs.Passed.{Unlinked, PassedLine, PassedLines, PassedTo}
 use Rattle.member.specs.declared.lines.LineCursor.{LineCursor}
-use Rattle.emission.specs.Emission.{isTitle, breakBefore, blockText}
+use Rattle.emission.specs.Emission.{breakBefore, blockText}
 use Rattle.emission.proofs.EmittedLaws.{leftText, newLine, text-next}
 
 -- the byte that a search finds
@@ -45,18 +46,14 @@ part-feed s a b e h k l q = ap (λ (u : List ℕ). part a b s ++ u) (sym (part-c
 
 -- such a line is put as it stands, and is no title
 still-line : (f : List ℕ → List ℕ) (z : ℤ) (titled : Bool) (g : Fence) (l : List ℕ) → Unlinked l → newLine f z titled (record { kind = stillKind g; bytes = l }) ≡ l
-still-line f z true Outside l u = u f
-still-line f z false Outside l u = u f
-still-line f z true Ticks l u = refl
-still-line f z false Ticks l u = refl
-still-line f z true Tildes l u = refl
-still-line f z false Tildes l u = refl
+still-line f z titled Outside l u = u f
+still-line f z titled Ticks l u = refl
+still-line f z titled Tildes l u = refl
 
-still-untitled : (titled : Bool) (g : Fence) → (titled || isTitle (stillKind g)) ≡ titled
-still-untitled true g = refl
-still-untitled false Outside = refl
-still-untitled false Ticks = refl
-still-untitled false Tildes = refl
+still-untitled : (titled : Bool) (g : Fence) → titledBy titled (stillKind g) ≡ titled
+still-untitled titled Outside = refl
+still-untitled titled Ticks = refl
+still-untitled titled Tildes = refl
 
 -- the text left from cursor c on is the block up to cursor d, and the text left from there on
 module _ (f : List ℕ → List ℕ) (z : ℤ) (s : List ℕ) (titled : Bool) (c : LineCursor) where

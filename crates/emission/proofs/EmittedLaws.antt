@@ -34,11 +34,12 @@ use Rattle.text.proofs.PartLaws.{part-part}
 use Rattle.put.proofs.NewTextLaws.{heading-linked, kind-in, TextIn, text-in}
 use Rattle.put.proofs.PutLaws.{Reached, roomAt, reached-start, reached-next, reached-over, reached-end, source-length, source-same}
 use Rattle.member.specs.Member.{movable}
+use Rattle.member.specs.Seen.{titledBy, movedKind}
 use Rattle.member.specs.Lines.{leftOf, atFirst, CursorIn, IsLine}
 use Rattle.member.specs.declared.lines.LineCursor.{LineCursor}
 use Rattle.member.proofs.LinesLaws.{lines-on}
 use Rattle.emission.proofs.LineLaws.{level-over, level-put, text-able, text-put}
-use Rattle.emission.specs.Emission.{emittedLine, emittedText, isTitle, kindAfter, breakBefore, levelOf}
+use Rattle.emission.specs.Emission.{emittedLine, breakBefore, levelOf}
 
 -- a line that is not quoted, by what stands before its text and by its text
 abbrev pub Open : LineKind → Type 0
@@ -102,19 +103,16 @@ open-line Quoted h = miss (1 ∷ 2 ∷ []) 0 tt h
 open-line (Heading n a e) h = tt
 open-line Other h = tt
 
-pub no-title : (k : LineKind) → OneOf (0 ∷ 2 ∷ []) (tagOf the-type k) → false ≡ isTitle k
-no-title Quoted h = refl
-no-title (Heading n a e) h = absurd (miss (0 ∷ 2 ∷ []) 1 tt h)
-no-title Other h = refl
-
 -- what a line is has its places in the line
-pub kind-kept : (n : ℕ) (titled : Bool) (k : LineKind) → KindIn n k → KindIn n (kindAfter titled k)
-kind-kept n true k w = w
-kind-kept n false k w = go (isTitle k)
+pub kind-kept : (n : ℕ) (titled : Bool) (k : LineKind) → KindIn n k → KindIn n (movedKind titled k)
+kind-kept n titled Quoted w = tt
+kind-kept n true (Heading m a e) w = w
+kind-kept n false (Heading m a e) w = go (eqb m 1)
   where
-    go : (b : Bool) → KindIn n (cond b Other k)
+    go : (b : Bool) → KindIn n (cond b Other (Heading m a e))
     go true = tt
     go false = w
+kind-kept n titled Other w = tt
 
 -- lines that are left, where the title stands before them or not, and n lines stand before them
 module _ (f : List ℕ → List ℕ) (z : ℤ) where
@@ -126,26 +124,28 @@ module _ (f : List ℕ → List ℕ) (z : ℤ) where
   leftText (suc n) titled ts = led (leftLines titled ts)
 
   abbrev pub newLine : Bool → Told → List ℕ
-  newLine titled t = emittedLine f z (record { kind = kindAfter titled (t .kind); bytes = t .bytes })
+  newLine titled t = emittedLine f z (record { kind = movedKind titled (t .kind); bytes = t .bytes })
 
-  lines-next : (titled : Bool) (t : Told) (ts : List Told) → leftLines titled (t ∷ ts) ≡ newLine titled t ∷ leftLines (titled || isTitle (t .kind)) ts
+  lines-next : (titled : Bool) (t : Told) (ts : List Told) → leftLines titled (t ∷ ts) ≡ newLine titled t ∷ leftLines (titledBy titled (t .kind)) ts
   unfolding movable
-  lines-next true t ts = refl
-  lines-next false t ts = go (t .kind) refl
+  lines-next titled t ts = by titled (t .kind) refl
     where
-      title : (n a e : ℕ) (b : Bool) → eqb n 1 ≡ b → t .kind ≡ Heading n a e → leftLines false (t ∷ ts) ≡ newLine false t ∷ leftLines (isTitle (t .kind)) ts
-      title n a e true q p = rw (p, q)
-      title n a e false q p = rw (p, q)
-
-      go : (k : LineKind) → t .kind ≡ k → leftLines false (t ∷ ts) ≡ newLine false t ∷ leftLines (isTitle (t .kind)) ts
-      go Quoted p = rw p
-      go (Heading n a e) p = title n a e (eqb n 1) refl p
-      go Other p = rw p
+      by : (b : Bool) (k : LineKind) → t .kind ≡ k → leftLines b (t ∷ ts) ≡ emittedLine f z (record { kind = movedKind b k; bytes = t .bytes }) ∷ leftLines (titledBy b k) ts
+      by true Quoted e = rw e
+      by true (Heading n x y) e = rw e
+      by true Other e = rw e
+      by false Quoted e = rw e
+      by false (Heading n x y) e = title (eqb n 1) refl
+        where
+          title : (b : Bool) → eqb n 1 ≡ b → leftLines false (t ∷ ts) ≡ emittedLine f z (record { kind = cond b Other (Heading n x y); bytes = t .bytes }) ∷ leftLines b ts
+          title true q = rw (e, q)
+          title false q = rw (e, q)
+      by false Other e = rw e
 
   pub text-next : (n : ℕ) (titled : Bool) (t : Told) (ts : List Told)
-      → leftText n titled (t ∷ ts) ≡ breakBefore n ++ (newLine titled t ++ leftText (n + 1) (titled || isTitle (t .kind)) ts)
+      → leftText n titled (t ∷ ts) ≡ breakBefore n ++ (newLine titled t ++ leftText (n + 1) (titledBy titled (t .kind)) ts)
   unfolding led
-  text-next zero titled t ts = ap (join LF) (lines-next titled t ts) ∙ join-led (newLine titled t) (leftLines (titled || isTitle (t .kind)) ts)
+  text-next zero titled t ts = ap (join LF) (lines-next titled t ts) ∙ join-led (newLine titled t) (leftLines (titledBy titled (t .kind)) ts)
   text-next (suc n) titled t ts = ap led (lines-next titled t ts) ∙ rw (add-one (suc n))
 
   pub text-none : (n : ℕ) (titled : Bool) → leftText n titled [] ≡ []

@@ -2,8 +2,8 @@
 use Prim.Native.Nat.{ℕ, suc, _+_, _-_, _≤_, _<_}
 use native.Mathlib.Omega.{arith}
 use mathlib.Core.Path.{_≡_, refl, sym, ap, subst, _∙_}
-use mathlib.Core.Bool.{Bool, true, false, cond, _||_}
-use mathlib.Core.List.{List, [], _∷_, _++_, append-assoc}
+use mathlib.Core.Bool.{Bool, true, false}
+use mathlib.Core.List.{List, [], _++_, append-assoc}
 use lib.IntN.{ℤ}
 use lib.ListN.{length}
 use Rattle.text.specs.Bytes.{part}
@@ -18,9 +18,10 @@ use Rattle.put.proofs.NewTextLaws.{kind-in}
 use Rattle.put.proofs.PutLaws.{Reached, roomAt, reached-start, reached-next, reached-over, reached-last, reached-end, source-length, source-same}
 use Rattle.member.specs.Lines.{leftOf, atFirst, CursorIn, IsLine}
 use Rattle.member.specs.Passed.{PassedTo}
+use Rattle.member.specs.Seen.{titledBy, movedKind}
 use Rattle.member.specs.declared.lines.LineCursor.{LineCursor}
 use Rattle.member.proofs.LinesLaws.{lines-on}
-use Rattle.emission.specs.Emission.{emittedLine, emittedText, isTitle, kindAfter, breakBefore, blockText}
+use Rattle.emission.specs.Emission.{emittedLine, emittedText, breakBefore, blockText}
 use Rattle.emission.proofs.EmittedLaws.{kind-kept, leftText, text-next, text-none}
 use Rattle.emission.proofs.BlockLaws.{Block, block}
 
@@ -89,7 +90,7 @@ module _ {source : Source} {room : Room} {c w : List ℕ} (able : Able source ro
       pub line-bounds : (a ≤ e) × (source .start + e ≤ source .end)
       line-bounds = (line .forward, omega (arith, line .within, source-length able, able .inside .0))
 
-      pub line-kind : KindIn (e - a) (kindAfter titled k)
+      pub line-kind : KindIn (e - a) (movedKind titled k)
       line-kind =
           kind-kept (e - a) titled k (rw (line .kind)
           (kind-in (d .state .fence) (d .state .comment) (part a e (sourceText source c w)) (e - a) (part-full (sourceText source c w) a e (line .within))))
@@ -98,19 +99,19 @@ module _ {source : Source} {room : Room} {c w : List ℕ} (able : Able source ro
       line-less = let n : b .at ≡ e + 1 = ap (λ (x : LineCursor). x .at) (line .after) in (omega (arith, line .order, line .forward), omega (arith, line .within, source-length able))
 
       abbrev new : List ℕ
-      new = emittedLine f z (record { kind = kindAfter titled k; bytes = part a e (sourceText source c w) })
+      new = emittedLine f z (record { kind = movedKind titled k; bytes = part a e (sourceText source c w) })
 
       abbrev left : List ℕ
-      left = leftText f z (b .line) (titled || isTitle k) (leftOf b (sourceText source c w))
+      left = leftText f z (b .line) (titledBy titled k) (leftOf b (sourceText source c w))
 
       line-next : leftText f z (d .line) titled (leftOf d (sourceText source c w)) ≡ breakBefore (d .line) ++ (new ++ left)
       line-next =
           let n : b .line ≡ d .line + 1 = ap (λ (x : LineCursor). x .line) (line .after) in
           ap (leftText f z (d .line) titled) (line .left)
           ∙ text-next f z (d .line) titled (record { kind = k; bytes = part a e (sourceText source c w) }) (leftOf b (sourceText source c w))
-          ∙ ap (λ (i : ℕ). breakBefore (d .line) ++ (new ++ leftText f z i (titled || isTitle k) (leftOf b (sourceText source c w)))) (sym n)
+          ∙ ap (λ (i : ℕ). breakBefore (d .line) ++ (new ++ leftText f z i (titledBy titled k) (leftOf b (sourceText source c w)))) (sym n)
 
-      module _ {g : List ℕ → List ℕ} (is : g ≡ f) {moved : LineKind} (kind : moved ≡ kindAfter titled k) {y : ℤ} (shift : y ≡ z) where
+      module _ {g : List ℕ → List ℕ} (is : g ≡ f) {moved : LineKind} (kind : moved ≡ movedKind titled k) {y : ℤ} (shift : y ≡ z) where
         abbrev put-now : List ℕ
         put-now = breakBefore (d .line) ++ emittedLine g y (record { kind = moved; bytes = part a e (sourceText source c v) })
 
@@ -119,7 +120,7 @@ module _ {source : Source} {room : Room} {c w : List ℕ} (able : Able source ro
             ap (λ (x : List ℕ → List ℕ). breakBefore (d .line) ++ emittedLine x y (record { kind = moved; bytes = part a e (sourceText source c v) })) is
             ∙ ap (λ (x : ℤ). breakBefore (d .line) ++ emittedLine f x (record { kind = moved; bytes = part a e (sourceText source c v) })) shift
             ∙ ap (λ (x : LineKind). breakBefore (d .line) ++ emittedLine f z (record { kind = x; bytes = part a e (sourceText source c v) })) kind
-            ∙ ap (λ (x : List ℕ). breakBefore (d .line) ++ emittedLine f z (record { kind = kindAfter titled k; bytes = part a e x })) same
+            ∙ ap (λ (x : List ℕ). breakBefore (d .line) ++ emittedLine f z (record { kind = movedKind titled k; bytes = part a e x })) same
 
         next-left : leftText f z (d .line) titled (leftOf d (sourceText source c w)) ≡ (breakBefore (d .line) ++ new) ++ left
         next-left = line-next ∙ sym (append-assoc (breakBefore (d .line)) new left)
@@ -127,7 +128,7 @@ module _ {source : Source} {room : Room} {c w : List ℕ} (able : Able source ro
         pub line-over : room .limit < at + length put-now → room .limit < room .at + length (emittedText f z (sourceText source c w))
         line-over j = reached-over (p .reached) (breakBefore (d .line) ++ new) left next-left (subst (λ (x : List ℕ). room .limit < at + length x) now-new j)
 
-        pub putting-on : (t : List ℕ) (n : ℕ) → Written (roomAt room at) put-now v t n → Putting f z source room c w t n b (titled || isTitle k)
+        pub putting-on : (t : List ℕ) (n : ℕ) → Written (roomAt room at) put-now v t n → Putting f z source room c w t n b (titledBy titled k)
         putting-on t n j = record {
           within = let i : b .at ≡ e + 1 = ap (λ (x : LineCursor). x .at) (line .after) in
               let o : b .line ≡ d .line + 1 = ap (λ (x : LineCursor). x .line) (line .after) in

@@ -1,15 +1,13 @@
 -- A member's lines as they are put. Nothing here is document 01's: functions promise it, and the laws of `proofs/` tie it to what is emitted.
 use Prim.Native.Nat.{ℕ, zero, suc, _-_}
-use mathlib.Core.Bool.{Bool, false, cond}
+use mathlib.Core.Bool.{cond}
 use mathlib.Core.List.{List, [], _∷_, _++_, map}
-use lib.Dec.{eqb, leb}
+use lib.Dec.{leb}
 use lib.IntN.{ℤ}
 use Rattle.text.specs.Bytes.{part}
 use Rattle.text.specs.Lines.{LF}
 use Rattle.text.specs.Split.{join}
 use Rattle.heading.specs.Level.{headingLine}
-use Rattle.heading.specs.declared.walk.LineKind.{LineKind}
-use Rattle.heading.specs.declared.walk.LineKind.the-variants.{Quoted, Heading, Other}
 use Rattle.shift.specs.Shift.{Told, movedLine}
 use Rattle.member.specs.Member.{movable}
 use Rattle.member.specs.Lines.{keptLines}
@@ -25,15 +23,6 @@ emittedLines f z s = map (emittedLine f z) (movable (keptLines s))
 
 abbrev pub emittedText : (List ℕ → List ℕ) → ℤ → List ℕ → List ℕ
 emittedText f z s = join LF (emittedLines f z s)
-
--- whether a line is an H1; and what it is where the title stands before it or not
-abbrev pub isTitle : LineKind → Bool
-isTitle Quoted = false
-isTitle (Heading n a e) = eqb n 1
-isTitle Other = false
-
-abbrev pub kindAfter : Bool → LineKind → LineKind
-kindAfter titled k = cond titled k (cond (isTitle k) Other k)
 
 -- what stands before a line that has n lines before it
 abbrev pub breakBefore : ℕ → List ℕ

@@ -10,10 +10,11 @@ ghost use Rattle.put.specs.Put.{sourceText, Able, Wrote};
 ghost use Rattle.put.specs.NewText.{KindIn};
 ghost use Rattle.members.specs.Members.{AllStand};
 ghost use Rattle.target.specs.Titles.{titlesIn};
-ghost use Rattle.emission.specs.Emission.{emittedLine, emittedText, isTitle, kindAfter, breakBefore, levelOf, blockText};
+ghost use Rattle.emission.specs.Emission.{emittedLine, emittedText, breakBefore, levelOf, blockText};
 use heading::walk::LineKind;
 use member::lines::LineCursor;
 use member::lines::NextLine;
+use member::outline;
 use put::Put;
 use put::Room;
 use put::Source;
@@ -71,34 +72,6 @@ fn put_line(
         Room { at, limit },
         work,
     )
-}
-
-// Whether a line is an H1.
-fn is_title(kind: LineKind) -> bool
-    ensures { λ r. ⌜ r ≡ isTitle kind ⌝ }
-{
-    let LineKind::Heading {
-        level,
-        start: _,
-        end: _,
-    } = kind
-    else {
-        return false;
-    };
-    level == 1
-}
-
-// What a line is where the title stands before it or not: the title is no heading to be moved.
-fn kind_after(titled: bool, kind: LineKind) -> LineKind
-    ensures { λ r. ⌜ r ≡ kindAfter titled kind ⌝ }
-{
-    if titled {
-        return kind;
-    }
-    if is_title(kind) {
-        return LineKind::Other;
-    }
-    kind
 }
 
 // What stands before a line that has n lines before it: an LF, or nothing.
@@ -222,7 +195,7 @@ pub fn put_lines(
         else {
             return Put::To(m);
         };
-        let moved = kind_after(titled, kind);
+        let moved = outline::moved_kind(titled, kind);
         let room = Room { at: m, limit };
         let Put::To(n) = put_next(
             index,
@@ -244,6 +217,6 @@ pub fn put_lines(
         };
         at = n;
         c = behind;
-        titled = titled | is_title(kind);
+        titled = outline::titled_by(titled, kind);
     }
 }

@@ -42,7 +42,7 @@ struct Seen {
 }
 
 // Whether there is a title among the lines up to one of this kind, where there is one before it or not: the first H1.
-fn titled_by(titled: bool, kind: LineKind) -> bool
+pub fn titled_by(titled: bool, kind: LineKind) -> bool
     ensures { λ r. ⌜ r ≡ titledBy titled kind ⌝ }
 {
     match kind {
@@ -57,7 +57,7 @@ fn titled_by(titled: bool, kind: LineKind) -> bool
 }
 
 // What a line is where the title is no heading to be moved.
-fn moved_kind(titled: bool, kind: LineKind) -> LineKind
+pub fn moved_kind(titled: bool, kind: LineKind) -> LineKind
     ensures { λ r. ⌜ r ≡ movedKind titled kind ⌝ }
 {
     match kind {

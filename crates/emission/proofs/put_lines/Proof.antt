@@ -85,8 +85,8 @@ returns-2 c =
     let b = putting-block (s .pre .0) i h _ _ (rw (c .before .before .before .before .before .m .given .1) at (c .before .before .before .before .before .before .before .before .before .put-block .ensures)) in
     putting-end (s .pre .0) b (rw (c .enum-told2 .given .1) at (c .before .before .line-in .ensures))
 
-kind-after-requires : tie.Need-kind-after-requires Inv-loop μ-loop
-kind-after-requires c κs = search needs
+moved-kind-requires : tie.Need-moved-kind-requires Inv-loop μ-loop
+moved-kind-requires c κs = search needs
 
 put-next-requires : tie.Need-put-next-requires Inv-loop μ-loop
 put-next-requires c κs =
@@ -99,7 +99,7 @@ put-next-requires c κs =
     let l = rw (g .1) at (c .before .before .before .before .before .line-in .ensures) in
     let o = line-bounds (s .pre .0) b (g .0 .0) (g .0 .1 .0) (g .0 .1 .1 .0) (g .0 .1 .1 .1 .0) l in
     let k = line-kind (s .pre .0) b (g .0 .0) (g .0 .1 .0) (g .0 .1 .1 .0) (g .0 .1 .1 .1 .0) l in
-    (able-on (s .pre .0) (b .reached), (all-on (s .args .contents .now) (s .pre .1 .0) (b .reached), (o .0, (o .1, (rw (c .before .kind-after .ensures) k, rw z (s .pre .1 .1))))))
+    (able-on (s .pre .0) (b .reached), (all-on (s .args .contents .now) (s .pre .1 .0) (b .reached), (o .0, (o .1, (rw (c .before .moved-kind .ensures) k, rw z (s .pre .1 .1))))))
 
 enum-known-n : tie.Need-enum-known-n Inv-loop μ-loop
 enum-known-n c = search needs
@@ -120,10 +120,10 @@ returns-3 c =
     let g = c .before .before .before .before .before .before .before .before .a .given in
     let l = rw (g .1) at (c .before .before .before .before .before .before .before .before .before .before .line-in .ensures) in
     let f = rewriting-same (s .args .contents .now) (s .pre .1 .0) (b .reached) (s .args .url .now) (s .args .dir .now) in
-    line-over (s .pre .0) b (g .0 .0) (g .0 .1 .0) (g .0 .1 .1 .0) (g .0 .1 .1 .1 .0) l f (c .before .before .before .before .before .before .kind-after .ensures) z (rw (c .enum-told3 .given .1) at (c .before .before .before .before .put-next .ensures))
+    line-over (s .pre .0) b (g .0 .0) (g .0 .1 .0) (g .0 .1 .1 .0) (g .0 .1 .1 .1 .0) l f (c .before .before .before .before .before .before .moved-kind .ensures) z (rw (c .enum-told3 .given .1) at (c .before .before .before .before .put-next .ensures))
 
-is-title-requires : tie.Need-is-title-requires Inv-loop μ-loop
-is-title-requires c κs = search needs
+titled-by-requires : tie.Need-titled-by-requires Inv-loop μ-loop
+titled-by-requires c κs = search needs
 
 loop-less : tie.Need-loop-less Inv-loop μ-loop
 loop-less c =
@@ -146,8 +146,8 @@ loop-again c =
     let g = c .before .before .before .before .before .before .before .before .before .before .a .given in
     let l = rw (g .1) at (c .before .before .before .before .before .before .before .before .before .before .before .before .line-in .ensures) in
     let f = rewriting-same (s .args .contents .now) (s .pre .1 .0) (b .reached) (s .args .url .now) (s .args .dir .now) in
-    rw (c .is-title .ensures, z)
-    (putting-on (s .pre .0) b (g .0 .0) (g .0 .1 .0) (g .0 .1 .1 .0) (g .0 .1 .1 .1 .0) l f (c .before .before .before .before .before .before .before .before .kind-after .ensures) z _ _ (rw (c .before .before .n .given .1) at (c .before .before .before .before .before .before .put-next .ensures)))
+    rw (c .titled-by .ensures, z)
+    (putting-on (s .pre .0) b (g .0 .0) (g .0 .1 .0) (g .0 .1 .1 .0) (g .0 .1 .1 .1 .0) l f (c .before .before .before .before .before .before .before .before .moved-kind .ensures) z _ _ (rw (c .before .before .n .given .1) at (c .before .before .before .before .before .before .put-next .ensures)))
 
 pub put-lines-spec : {M : Type 1} → statement M
 put-lines-spec =
@@ -168,12 +168,12 @@ put-lines-spec =
     enum-told-2
     same-length-2
     returns-2
-    kind-after-requires
+    moved-kind-requires
     put-next-requires
     enum-known-n
     enum-told-3
     same-length-3
     returns-3
-    is-title-requires
+    titled-by-requires
     loop-less
     loop-again)
