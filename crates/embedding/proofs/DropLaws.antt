@@ -281,8 +281,3 @@ module _ {w₀ : List ℕ} {n : ℕ} {w : List ℕ} {at : ℕ} {c : Cursor} (d :
                 ∙ ap (λ (l : List Region). x ++ (y ++ unmarkedFrom (g .closer .line + 1) l (drop (g .closer .line) (pieces v)))) (regions-behind v c (found e)))
                 ∙ simp append-assoc;
           })
-
--- the lines of what is left, told
-pub unmarked-told : (v u : List ℕ) → Unmarked v u → toldFrom walkBegin (dropEnd (dropStart (pieces u))) ≡ embeddedLines v
-unfolding embeddedLines
-unmarked-told v u h = ap (toldFrom walkBegin) h

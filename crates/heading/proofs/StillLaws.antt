@@ -167,22 +167,10 @@ unfolding shallowestOf
 shallowest-append b [] js = refl
 shallowest-append b (k ∷ ks) js = shallowest-append (shallower b k) ks js
 
--- the deepest level of both
-pub deepest-append : (b : ℕ) (ks js : List LineKind) → deepestOf b (ks ++ js) ≡ deepestOf (deepestOf b ks) js
-unfolding deepestOf
-deepest-append b [] js = refl
-deepest-append b (k ∷ ks) js = deepest-append (deeper b k) ks js
-
 -- a blank line before lines
 pub blank-kinds : (st : WalkState) (l : List ℕ) (ls : List (List ℕ)) → isBlank l ≡ true → kindsFrom st (l ∷ ls) ≡ stillKind (st .fence) ∷ kindsFrom st ls
 unfolding kindsFrom
 blank-kinds st l ls e = rw (blank-kind (st .fence) (st .comment) l e, blank-after (st .fence) (st .comment) l e)
-
--- likewise where no comment is open outside fences
-pub other-kinds : (st : WalkState) (l : List ℕ) (ls : List (List ℕ)) → begins l ≡ false → (st .fence ≡ Outside → st .comment ≡ false)
-    → kindsFrom st (l ∷ ls) ≡ stillKind (st .fence) ∷ kindsFrom st ls
-unfolding kindsFrom
-other-kinds st l ls e g = rw (other-kind (st .fence) (st .comment) l e, other-after (st .fence) (st .comment) l e g)
 
 empty-blank : isBlank [] ≡ true
 unfolding isBlank lead first

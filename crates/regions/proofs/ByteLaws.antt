@@ -44,10 +44,6 @@ module _ {s : List ℕ} {n o : ℕ} (a : Starts s n o) where
   pub led-start : 1 < n → led (drop (n - 1) (pieces s)) ≡ drop (o - 1) s
   led-start h = ap led (a .lines) ∙ led-pieces (drop o s) ∙ sym (start-feed h .1)
 
--- the text has n lines up to it
-pub through-length : {s : List ℕ} {n o : ℕ} → Starts s n o → length (take n (pieces s)) ≡ n
-through-length {s} {n} {o} a = omega (arith, starts-within a, length-take n (pieces s))
-
 -- line n starts at place o and ends at place e
 module _ {s : List ℕ} {n o : ℕ} (a : Starts s n o) (e : ℕ) (q : e ≡ o + first (is LF) (drop o s)) where
   end-within : e ≤ length s

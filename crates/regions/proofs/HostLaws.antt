@@ -40,7 +40,7 @@ use Rattle.regions.proofs.ByteLaws.{text-first, led-start, led-through}
 use Rattle.regions.proofs.OwnLaws.{own-is, last-append, last-blanks, last-nothing, level-last}
 use Rattle.regions.proofs.CursorLaws.{next-placed, next-later, region-blanked, own-next}
 
--- for callers: the cursor at a host's start, and what is left behind it
+-- for callers: the cursor at a host's start,
 pub host-start : (s : List ℕ) → HostAt s startCursor
 unfolding scan statesAfter lastLevel kindsFrom
 host-start s = record {
@@ -56,10 +56,6 @@ host-start s = record {
   level = tt;
   top = λ h e. absurd (omega arith);
 }
-
-pub host-regions : (k : ℕ) (name s : List ℕ) → hostRest (fileOf k name s) startCursor ≡ hostRegions (fileOf k name s) (regionsOf (scan s))
-unfolding scan hostRest
-host-regions k name s = refl
 
 -- and where a cursor stands
 pub host-within : {s : List ℕ} {c : HostCursor} → HostAt s c → (c .at ≤ length s) × (c .from ≤ length s)

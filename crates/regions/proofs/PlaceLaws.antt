@@ -44,10 +44,6 @@ next-pieces s h =
     let k : first (is LF) s < length s = omega (arith, first-le (is LF) s) in
     rw (line-next s k, split-step LF s k)
 
--- the first line, and from a line the next
-pub starts-first : (s : List ℕ) → 0 < length s → Starts s 1 0
-starts-first s h = record { counted = omega arith; within = h; lines = refl }
-
 pub starts-next : {s : List ℕ} {n o : ℕ} → Starts s n o → o + lineNext (drop o s) < length s → Starts s (n + 1) (o + lineNext (drop o s))
 starts-next {s} {n} {o} a h =
     let k : (n + 1) - 1 ≡ (n - 1) + 1 = omega (arith, a .counted) in
@@ -247,10 +243,6 @@ scan-fuel (suc f) s n o hf a st m p hm hp q =
     scan-line s n o a st m p hm hp q
     (λ b hx t k y hk hy r. scan-fuel f s (n + 1) (o + lineNext (drop o s)) (omega (arith, b .within)) (λ z. starts-next b z) t k y (omega arith) hy r)
 
--- the same with nothing open, as from a cursor; and for a whole text
+-- the same with nothing open, as from a cursor
 pub scan-ordered : (s : List ℕ) (n o : ℕ) → (o < length s → Starts s (n + 1) o) → Ordered s n o (regionsOf (scanFrom begin (n + 1) (linesFrom o (drop o s))))
 scan-ordered s n o a = scan-fuel (length s) s (n + 1) o (omega arith) a begin n o (omega arith) (omega arith) tt
-
-pub regions-ordered : (s : List ℕ) → Ordered s 0 0 (regionsOf (scan s))
-unfolding scan
-regions-ordered s = scan-fuel (length s) s 1 0 (omega arith) (starts-first s) begin 0 0 (omega arith) (omega arith) tt
