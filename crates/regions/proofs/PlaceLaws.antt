@@ -44,6 +44,7 @@ next-pieces s h =
     let k : first (is LF) s < length s = omega (arith, first-le (is LF) s) in
     rw (line-next s k, split-step LF s k)
 
+-- from a line the next
 pub starts-next : {s : List ℕ} {n o : ℕ} → Starts s n o → o + lineNext (drop o s) < length s → Starts s (n + 1) (o + lineNext (drop o s))
 starts-next {s} {n} {o} a h =
     let k : (n + 1) - 1 ≡ (n - 1) + 1 = omega (arith, a .counted) in
