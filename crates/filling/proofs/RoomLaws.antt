@@ -1,12 +1,12 @@
 -- The buffer of a fill: a part that is lent and comes back, bytes put behind a text, and room for each file not on the chain. Assumes nothing.
-use Prim.Native.Nat.{ℕ, suc, _+_, _-_, _*_, _≤_, _<_}
+use Prim.Native.Nat.{ℕ, zero, suc, _+_, _-_, _*_, _≤_, _<_}
 use native.Mathlib.Nat.{suc-mul}
 use native.Mathlib.Omega.{arith}
 use mathlib.Core.Path.{_≡_, refl, sym, _∙_, ap}
 use mathlib.Core.Bool.{Bool, true, false, cond}
 use mathlib.Core.List.{List, [], _++_, append-nil}
 use lib.Dec.{leb}
-use lib.ListN.{length, getD, take, drop, set, length-append, length-drop, drop-of-length-le}
+use lib.ListN.{length, getD, take, drop, set, replicate, length-append, length-drop, drop-of-length-le}
 use lib.Seq.{sets, sets-eq, length-take-le, take-all, take-append-le, take-take, take-at, drop-at, take-set-lt, getD-take}
 use borrow.Author.Tests.{le-leb, lt-leb}
 use Rattle.answer.specs.declared.Place.{Place}
@@ -65,6 +65,13 @@ module _ (L : ℕ) (p : Place) (w s : List ℕ) (len : ℕ) where
       rw (lt-leb (length (take len w ++ s)) L (omega arith))
 
 -- ---- room for each file not on the chain
+
+-- none of n is on a chain that starts
+pub free-none : (n k : ℕ) → n ≤ k → free (take n (replicate k false)) ≡ n
+unfolding free
+free-none zero k h = refl
+free-none (suc n) zero h = absurd (omega arith)
+free-none (suc n) (suc k) h = ap suc (free-none n k (omega arith))
 
 module _ (m : List Bool) (n d : ℕ) (h : d < n) (k : n ≤ length m) (e : getD m d false ≡ false) where
   -- with the file d on it one less

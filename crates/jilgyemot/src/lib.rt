@@ -32,7 +32,7 @@ pub extern "C" fn jilgyemot_fill(
     ensures { λ _. ⌜ now (out .exit) ≡ outputAfter (fillOutcome (now (index .entry)) (now (contents .entry)) (now (name .entry)) (now (text .entry)) limit allowance (length (now (out .entry))) (length (now (work .entry)))) (now (out .entry)) ⌝ }
     ensures { λ _. ⌜ now (work .exit) ≡ workAfter (now (work .entry)) ⌝ }
 {
-    let filled = calls::fill::fill(
+    let filled = fill_call::fill(
         index,
         contents,
         name,
@@ -61,14 +61,6 @@ pub extern "C" fn jilgyemot_assemble(
     ensures { λ _. ⌜ now (out .exit) ≡ outputAfter (assembleOutcome (now (index .entry)) (now (contents .entry)) (now (list .entry)) (now (url .entry)) limit (length (now (out .entry))) (length (now (work .entry)))) (now (out .entry)) ⌝ }
     ensures { λ _. ⌜ now (work .exit) ≡ workAfter (now (work .entry)) ⌝ }
 {
-    let assembled = calls::assemble::assemble(
-        index,
-        contents,
-        list,
-        url,
-        limit as usize,
-        out,
-        work,
-    );
+    let assembled = assemble_call::assemble(index, contents, list, url, limit as usize, out, work);
     *answer = answer::numbers(assembled);
 }

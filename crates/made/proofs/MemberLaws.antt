@@ -1,10 +1,10 @@
 -- One member that stands in the contents, filled in its slot. Assumes nothing.
-use Prim.Native.Nat.{ℕ, zero, suc, _+_, _-_, _*_, _≤_}
+use Prim.Native.Nat.{ℕ, suc, _+_, _-_, _*_, _≤_}
 use native.Mathlib.Omega.{arith}
 use mathlib.Core.Path.{_≡_, refl, sym, _∙_, ap}
-use mathlib.Core.Bool.{Bool, false}
+use mathlib.Core.Bool.{false}
 use mathlib.Core.List.{List, _++_}
-use lib.ListN.{length, take, drop, replicate}
+use lib.ListN.{length, take, drop}
 use Rattle.text.specs.Bytes.{part}
 use Rattle.index.specs.Index.{File, fileOf}
 use Rattle.walk.specs.Outcome.{Outcome}
@@ -12,18 +12,12 @@ use Rattle.chains.specs.Chains.{free, noMarks, chain, startAt}
 use Rattle.chains.specs.Fill.{filled}
 use Rattle.filling.specs.Filling.{readFilled, Ready, FilledWithin}
 use Rattle.filling.specs.declared.Filled.{Filled}
-use Rattle.filling.proofs.RoomLaws.{lent-length, back-take, back-drop}
+use Rattle.filling.proofs.RoomLaws.{free-none, lent-length, back-take, back-drop}
 use Rattle.put.specs.Put.{Inside}
 use Rattle.put.specs.declared.Source.{Source}
 use Rattle.members.specs.Members.{nameOf, fileIn}
 use Rattle.members.specs.declared.Member.{Member}
 use Rattle.made.specs.Made.{CanFill}
-
-free-none : (n k : ℕ) → n ≤ k → free (take n (replicate k false)) ≡ n
-unfolding free
-free-none zero k h = refl
-free-none (suc n) zero h = absurd (omega arith)
-free-none (suc n) (suc k) h = ap suc (free-none n k (omega arith))
 
 pub source-in : (s : Source) (L c stop : ℕ) → Inside s L c stop → s .work ≡ false → s .end ≤ c
 source-in s L c stop h e = rw e at (h .1)

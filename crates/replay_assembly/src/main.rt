@@ -17,7 +17,7 @@ fn assemble_given(given: &[u8], at: Starts, limits: Limits, out: &mut [u8], work
     let contents = at.contents;
     let list = at.third;
     let url = at.fourth;
-    let a = calls::assemble::assemble(
+    let a = assemble_call::assemble(
         &given[..contents],
         &given[contents..list],
         &given[list..url],

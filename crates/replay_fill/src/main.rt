@@ -17,7 +17,7 @@ fn fill_given(given: &[u8], at: Starts, limits: Limits, out: &mut [u8], work: &m
     let contents = at.contents;
     let name = at.third;
     let text = at.fourth;
-    let a = calls::fill::fill(
+    let a = fill_call::fill(
         &given[..contents],
         &given[contents..name],
         &given[name..text],

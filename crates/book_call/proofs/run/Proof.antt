@@ -1,0 +1,78 @@
+-- `run` meets its contract: refused by the checks, or made. Assumes nothing.
+use native.Mathlib.Omega.{arith}
+use mathlib.Core.Path.{_≡_, refl, sym, _∙_}
+use mathlib.Core.List.{List}
+use Prim.Native.Nat.{ℕ}
+use Rattle.index.specs.Index.{records}
+use Rattle.fileset.specs.Check.{bookChecked, Passes, Listed}
+use Rattle.fileset.specs.declared.check.Checked.the-variants.{Passed}
+use Rattle.fileset.proofs.PassedLaws.{book-fit}
+use Rattle.listed.proofs.FilesLaws.{are-listed}
+use Rattle.made.proofs.ReadyLaws.{can-make, book-same}
+use Rattle.book_call.proofs.BookCallLaws.{book-held, book-passed, book-stopped}
+use borrow.Author.Needs.{needs}
+use Rattle.book_call.proofs.run.Statement.{statement}
+use Rattle.book_call.proofs.run.Tie as tie
+
+check-book-requires : tie.Need-check-book-requires
+check-book-requires c κs = search needs
+
+enum-known-refusal : tie.Need-enum-known-refusal
+enum-known-refusal c = search needs
+
+enum-told : tie.Need-enum-told
+enum-told c = search needs
+
+line-count-requires : tie.Need-line-count-requires
+line-count-requires c κs = search needs
+
+record-count-requires : tie.Need-record-count-requires
+record-count-requires c κs = search needs
+
+-- the checks passed, and what they tell of index and list
+passed : (c : tie.After-enum-told) → let a = c .before .before .before .before .before .before .before .before .before .before .args in
+    bookChecked (a .index .now) (a .contents .now) (a .list .now) (a .url .now) (a .sizes .limit) (a .sizes .output) (a .sizes .work) ≡ Passed
+passed c = sym (c .before .before .check-book .ensures .0) ∙ c .enum-told .given .1
+
+told : (c : tie.After-enum-told) → let a = c .before .before .before .before .before .before .before .before .before .before .args in
+    Passes (a .index .now) (a .contents .now) (c .before .before .check-book .last .1 .1 .1 .1 .1 .0)
+told c = rw (c .enum-told .given .1) at (c .before .before .check-book .ensures .1 .0)
+
+listed : (c : tie.After-enum-told) → let a = c .before .before .before .before .before .before .before .before .before .before .args in
+    Listed (records (a .index .now)) (a .list .now) (c .before .before .check-book .last .1 .1 .1 .1 .1 .1 .0) Passed
+listed c = rw (c .enum-told .given .1) at (c .before .before .check-book .ensures .1 .1)
+
+put-files-requires : tie.Need-put-files-requires
+put-files-requires c κs = let a = c .before .before .before .before .before .before .before .before .before .before .before .before .before .before .before .args in let k = c .before .before .before .before .before .before .before .check-book .last .1 .1 .1 .1 .1 in let n = c .before .before .before .before .line-count in
+    (refl, are-listed (a .index .now) (a .contents .now) (a .list .now) (a .url .now) (k .0) (k .1 .0) (a .sizes .limit) (a .sizes .output) (a .sizes .work) (n .result) (passed (c .before .before .before .before .before)) (told (c .before .before .before .before .before)) (listed (c .before .before .before .before .before)) (n .ensures) (omega (arith, c .before .before .before .before .before .before .before .before .before .before .before .before .before .before .before .good .1 .0 .0)))
+
+assemble-made-requires : tie.Need-assemble-made-requires
+assemble-made-requires c κs = let a = c .before .before .before .before .before .before .before .before .before .before .before .before .before .before .before .before .before .before .before .args in let k = c .before .before .before .before .before .before .before .before .before .before .before .check-book .last .1 .1 .1 .1 .1 in let n = c .before .before .before .before .before .before .before .before .line-count in let m = c .before .before .before .before .before .before .before .record-count in
+    (rw (← c .before .before .before .before .before .before .before .before .before .before .before .before .before .before .before .before .before .before .before .pre) (can-make (a .index .now) (a .contents .now) (a .list .now) (a .url .now) (k .0) (k .1 .0) (a .sizes .limit) (a .sizes .output) (a .sizes .work) (n .result) (m .result) (passed (c .before .before .before .before .before .before .before .before .before)) (told (c .before .before .before .before .before .before .before .before .before)) (listed (c .before .before .before .before .before .before .before .before .before)) (n .ensures) (m .ensures) (c .before .before .before .put-files .ensures)), book-fit (a .index .now) (a .contents .now) (a .list .now) (a .url .now) (a .sizes .limit) (a .sizes .output) (a .sizes .work) (passed (c .before .before .before .before .before .before .before .before .before)) .0)
+
+returns : tie.Need-returns
+returns c = let a = c .before .before .before .before .before .before .before .before .before .before .before .args in
+    (book-stopped (a .index .now) (a .contents .now) (a .list .now) (a .url .now) (a .sizes .limit) (a .allowance) (a .sizes .output) (a .sizes .work) (sym (c .before .refusal .given .1) ∙ c .before .before .before .check-book .ensures .0), tt)
+
+same-length : tie.Need-same-length
+same-length c = search needs
+
+returns-2 : tie.Need-returns-2
+returns-2 c = let a = c .before .before .before .before .before .before .before .before .before .before .before .before .before .before .before .before .before .before .before .before .before .before .args in let k = c .before .before .before .before .before .before .before .before .before .before .before .before .before .before .check-book .last .1 .1 .1 .1 .1 in let n = c .before .before .before .before .before .before .before .before .before .before .before .line-count in let m = c .before .before .before .before .before .before .before .before .before .before .record-count in let f = c .before .before .assemble-made in
+    let s = book-same (a .index .now) (a .contents .now) (a .list .now) (a .url .now) (k .0) (k .1 .0) (a .sizes .limit) (a .sizes .output) (a .sizes .work) (n .result) (m .result) (passed (c .before .before .before .before .before .before .before .before .before .before .before .before)) (told (c .before .before .before .before .before .before .before .before .before .before .before .before)) (listed (c .before .before .before .before .before .before .before .before .before .before .before .before)) (n .ensures) (m .ensures) (c .before .before .before .before .before .before .put-files .ensures) (a .work .now) in
+    (book-passed (a .index .now) (a .contents .now) (a .list .now) (a .url .now) (a .sizes .limit) (a .sizes .output) (a .sizes .work) (passed (c .before .before .before .before .before .before .before .before .before .before .before .before)) (a .allowance) s (f .ensures .0), book-held (a .index .now) (a .contents .now) (a .list .now) (a .url .now) (a .sizes .limit) (a .sizes .output) (a .sizes .work) (passed (c .before .before .before .before .before .before .before .before .before .before .before .before)) (f .result) (f .ensures .1))
+
+pub run-spec : {M : Type 1} → statement M
+run-spec =
+    tie.close
+    (tie.spec
+    check-book-requires
+    enum-known-refusal
+    enum-told
+    line-count-requires
+    record-count-requires
+    put-files-requires
+    assemble-made-requires
+    returns
+    same-length
+    returns-2)

@@ -1,4 +1,0 @@
-pub mod GivenLaws
-pub mod FillCallLaws
-pub mod AssembleCallLaws
-pub mod BookCallLaws
