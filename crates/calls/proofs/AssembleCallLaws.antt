@@ -13,8 +13,8 @@ use Rattle.fileset.proofs.PassedLaws.{book-fit}
 use Rattle.walk.specs.Steps.{judge}
 use Rattle.walk.specs.Outcome.{Outcome, refusal, outcome}
 use Rattle.answer.specs.declared.Refusal.{Refusal}
-use Rattle.assembly.specs.declared.Assembled.{Assembled}
-use Rattle.assembly.specs.declared.Assembled.the-variants.{Text, Refused}
+use Rattle.joining.specs.declared.Assembled.{Assembled}
+use Rattle.joining.specs.declared.Assembled.the-variants.{Text, Refused}
 use Rattle.assembled.specs.Assemble.{assemble}
 use Rattle.assembly.specs.Parts.{readAssembled, AssembledWithin}
 use Rattle.book.specs.Book.{membersOf}

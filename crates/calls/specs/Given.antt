@@ -8,8 +8,8 @@ use Rattle.answer.specs.declared.Answer.the-variants.{Accepted, NoRegion, Refus
 use Rattle.walk.specs.Outcome.{Outcome, text, noRegion, refusal}
 use Rattle.filling.specs.declared.Filled.{Filled}
 use Rattle.filling.specs.declared.Filled.the-variants.{Text, NoRegion as NoRegionIn, Refused as FillRefused}
-use Rattle.assembly.specs.declared.Assembled.{Assembled}
-use Rattle.assembly.specs.declared.Assembled.the-variants.{Text as Joined, Refused as JoinRefused}
+use Rattle.joining.specs.declared.Assembled.{Assembled}
+use Rattle.joining.specs.declared.Assembled.the-variants.{Text as Joined, Refused as JoinRefused}
 
 -- the answer that a fill's own answer becomes, and an assembly's
 abbrev pub answered : Filled → Answer

@@ -6,10 +6,10 @@ ghost use Rattle.book.specs.Calls.{assembleOutcome, answerOf, outputAfter, work
 ghost use Rattle.calls.specs.Given.{assembled, readAnswer, Fits};
 use crate::give;
 use answer::Answer;
-use assembly::Assembled;
 use fileset::check;
 use fileset::check::Checked;
 use fileset::check::Sizes;
+use joining::Assembled;
 
 // An assembly takes no file in.
 fn answer_of(got: Assembled) -> Answer
