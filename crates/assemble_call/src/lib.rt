@@ -8,6 +8,7 @@ use answer::Answer;
 use fileset::check;
 use fileset::check::Checked;
 use fileset::check::Sizes;
+use joining::Assembled;
 
 // Checks the input, and assembles the members at the front of the work buffer. The table of anchors stands behind them. An assembly takes no file in.
 fn run(
@@ -31,6 +32,7 @@ fn run(
             let mut set = [0usize; 704];
             listed::put_files(&rows, &lines, count, &mut set);
             let limit = sizes.limit;
+            let table = limit;
             let text = assembly::assemble(
                 index,
                 contents,
@@ -38,7 +40,7 @@ fn run(
                 &mut set,
                 count,
                 limit,
-                limit,
+                table,
                 work,
             );
             give::answer_of(text, 0)

@@ -1,7 +1,3 @@
-pub mod PrepareLaws
-pub mod RuleLaws
-pub mod TurnLaws
-pub mod StandLaws
+pub mod LastLaws
 pub mod EmittingLaws
-pub mod BehindLaws
 pub mod WholeLaws

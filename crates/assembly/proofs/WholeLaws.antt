@@ -7,16 +7,42 @@ use lib.ListN.{length, take}
 use Rattle.answer.specs.declared.Place.{Place}
 use Rattle.answer.specs.declared.Refusal.{Refusal}
 use Rattle.answer.specs.declared.Refusal.the-variants.{SharedAnchor}
+use Rattle.index.specs.Index.{File}
 use Rattle.walk.specs.Outcome.{Outcome, refusal, outcome}
-use Rattle.walk.specs.Steps.{failed, judge}
+use Rattle.walk.specs.Steps.{done, failed, go, refused, judge}
 use Rattle.member.specs.Member.{Prepared}
-use Rattle.members.specs.Members.{filesFrom, preparedFrom, AllLie, AllStand}
-use Rattle.members.proofs.MembersLaws.{prepared-up}
+use Rattle.members.specs.Members.{filesFrom, preparedFrom, AllLie, AllStand, memberAt, AllKnown}
+use Rattle.members.proofs.MembersLaws.{prepared-up, source-up}
 use Rattle.shared.specs.Shared.{sharedFrom}
 use Rattle.assembled.specs.Assemble.{prepareAll, assemblePrepared, assemble}
-use Rattle.assembly.specs.Parts.{ArePrepared, CanEmit}
-use Rattle.assembly.proofs.PrepareLaws.{prepared-all, prepared-stand, assemble-stops, assemble-shares, assemble-goes}
-use Rattle.assembly.proofs.StandLaws.{stand-wide, can-emit}
+use Rattle.preparation.specs.Preparation.{ArePrepared}
+use Rattle.joining.specs.Joining.{CanEmit}
+use Rattle.preparation.proofs.PrepareLaws.{prepared-all, prepared-stand}
+use Rattle.preparation.proofs.WideLaws.{stand-wide}
+use Rattle.joining.proofs.StandLaws.{known-each}
+
+-- the walk, by what is prepared and what is shared
+module _ (B L n : ℕ) (url : List ℕ) (hs : List File) where
+  assemble-stops : (x : Refusal) → prepareAll hs ≡ failed x → judge B L n (assemble url hs) ≡ refused x
+  unfolding assemble go judge
+  assemble-stops x e = rw e
+
+  assemble-shares : (ms : List Prepared) (x : Refusal) (xs : List Refusal) → prepareAll hs ≡ done ms → sharedFrom [] ms ≡ x ∷ xs → judge B L n (assemble url hs) ≡ refused x
+  unfolding assemble go judge
+  assemble-shares ms x xs e q = rw (e, q)
+
+  assemble-goes : (ms : List Prepared) → prepareAll hs ≡ done ms → sharedFrom [] ms ≡ [] → judge B L n (assemble url hs) ≡ judge B L n (assemblePrepared url ms)
+  unfolding assemble go
+  assemble-goes ms e q = rw (e, q)
+
+-- members that were compared can be emitted
+pub can-emit : (index contents set : List ℕ) (n limit table : ℕ) (v w : List ℕ) → AllStand index (length contents) limit table set n → AllKnown contents w set n
+    → take table v ≡ take table w → limit ≤ table → table ≤ length v → CanEmit index contents set n limit v
+can-emit index contents set n limit table v w a k q h l = record {
+  stand = stand-wide limit table limit (length v) (omega arith) l index (length contents) set n a;
+  known = known-each contents v w set n (λ i j. source-up (memberAt set i .source) limit (length contents) table contents v w (a .stand i j .lies .inside) q) k;
+  fits = omega arith;
+}
 
 -- 18
 pub whole-stops : (index contents w old : List ℕ) (n : ℕ) (url : List ℕ) (x : Refusal) → prepareAll (filesFrom index contents w old 0 n) ≡ failed x

@@ -15,7 +15,7 @@ use Rattle.walk.specs.Steps.{Steps, judge}
 use Rattle.walk.specs.Outcome.{Outcome, refusal, outcome}
 use Rattle.assembled.specs.Assemble.{assemble}
 use Rattle.assembly.specs.Parts.{readAssembled}
-use Rattle.assembly.specs.declared.Assembled.{Assembled}
+use Rattle.joining.specs.declared.Assembled.{Assembled}
 use Rattle.book.specs.BookWalk.{book}
 use Rattle.book.specs.Calls.{bookOutcome}
 use Rattle.made.specs.Made.{bookOf, AreMade}

@@ -9,8 +9,8 @@ use Rattle.answer.specs.declared.Answer.{Answer}
 use Rattle.answer.specs.declared.Answer.the-variants.{Accepted, NoRegion, Refused}
 use Rattle.walk.specs.Outcome.{Outcome}
 use Rattle.assembly.specs.Parts.{readAssembled, AssembledWithin}
-use Rattle.assembly.specs.declared.Assembled.{Assembled}
-use Rattle.assembly.specs.declared.Assembled.the-variants.{Text, Refused as Stopped}
+use Rattle.joining.specs.declared.Assembled.{Assembled}
+use Rattle.joining.specs.declared.Assembled.the-variants.{Text, Refused as Stopped}
 use Rattle.book.specs.Calls.{answerOf, outputAfter, workAfter}
 use Rattle.give.specs.Given.{assembled, readAnswer, copied, Fits}
 

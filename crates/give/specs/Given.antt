@@ -6,8 +6,8 @@ use lib.ListN.{take, drop}
 use Rattle.answer.specs.declared.Answer.{Answer}
 use Rattle.answer.specs.declared.Answer.the-variants.{Accepted, NoRegion, Refused}
 use Rattle.walk.specs.Outcome.{Outcome, text, noRegion, refusal}
-use Rattle.assembly.specs.declared.Assembled.{Assembled}
-use Rattle.assembly.specs.declared.Assembled.the-variants.{Text as Joined, Refused as JoinRefused}
+use Rattle.joining.specs.declared.Assembled.{Assembled}
+use Rattle.joining.specs.declared.Assembled.the-variants.{Text as Joined, Refused as JoinRefused}
 
 -- the answer that an assembly's own answer becomes, with the files taken in before
 abbrev pub assembled : ℕ → Assembled → Answer

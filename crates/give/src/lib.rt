@@ -5,7 +5,7 @@ ghost use lib.ListN.{length};
 ghost use Rattle.book.specs.Calls.{workAfter};
 ghost use Rattle.give.specs.Given.{assembled, copied, Fits};
 use answer::Answer;
-use assembly::Assembled;
+use joining::Assembled;
 
 // The answer that an assembly's own answer becomes, with the files taken in before.
 pub fn answer_of(got: Assembled, files: usize) -> Answer

@@ -1,4 +1,1 @@
-pub mod CutLaws
-pub mod StartLaws
-pub mod LinkedLaws
 pub mod PlanLaws

@@ -28,7 +28,7 @@ use Rattle.shift.proofs.ShiftLaws.{kinds-told, past-none, past-some}
 use Rattle.embedding.specs.Embed.{embedTold}
 use Rattle.put.specs.Put.{sourceText, partOf, Written, Wrote}
 use Rattle.insertion.specs.Insertion.{joined, stopped, readInserted, insertedOf, Within}
-use Rattle.insertion.specs.Parts.{linkedLine, linkedLines}
+use Rattle.putting.specs.Lines.{linkedLine, linkedLines}
 use Rattle.insertion.specs.Plans.{embedText, PlanOf, withinLimit}
 use Rattle.insertion.specs.declared.plan.Plan.the-variants.{Nothing, PastAt, Lines}
 use Rattle.put.specs.declared.Source.{Source}

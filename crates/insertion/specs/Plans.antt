@@ -15,7 +15,7 @@ use Rattle.path.specs.Path.{parentDir}
 use Rattle.walk.specs.Parts.{Part, good, flawed}
 use Rattle.shift.specs.Shift.{toldFrom, toldLines}
 use Rattle.embedding.specs.Embed.{embedTold}
-use Rattle.insertion.specs.Parts.{linkedLine}
+use Rattle.putting.specs.Lines.{linkedLine}
 use Rattle.insertion.specs.declared.Inserted.{Inserted}
 use Rattle.insertion.specs.declared.Inserted.the-variants.{To, Refused}
 use Rattle.put.specs.declared.Put.{Put}

@@ -15,10 +15,7 @@ use put::Put;
 use put::Room;
 use put::Source;
 
-pub mod cut;
-pub mod line;
 pub mod plan;
-pub mod putting;
 pub mod read;
 
 // What is embedded where: the opener's place, the target level, the file's number, the limit, and how long the running text is.

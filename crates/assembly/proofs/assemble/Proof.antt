@@ -1,7 +1,7 @@
 -- `assemble` meets its contract. Assumes nothing.
 use native.Mathlib.Omega.{arith}
 use lib.ListN.{length}
-use Rattle.assembly.proofs.StandLaws.{can-prepare}
+use Rattle.preparation.proofs.WideLaws.{can-prepare}
 use Rattle.assembly.proofs.WholeLaws.{whole-stops, compare-stand, whole-shares, whole-emit, whole-goes}
 use borrow.Author.Needs.{needs}
 use Rattle.assembly.proofs.assemble.Statement.{statement}

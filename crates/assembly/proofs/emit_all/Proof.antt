@@ -3,7 +3,7 @@ use Prim.Native.Nat.{_-_}
 use native.Mathlib.Omega.{arith}
 use borrow.Author.Needs.{needs}
 use Rattle.assembly.proofs.EmittingLaws.{Emitting, emitting-start, emitting-able, emitting-next, emitting-stops, emitting-last}
-use Rattle.assembly.proofs.TurnLaws.{put-within}
+use Rattle.assembly.proofs.LastLaws.{put-within}
 use Rattle.assembly.proofs.emit_all.Statement.{statement}
 use Rattle.assembly.proofs.emit_all.Tie as tie
 

@@ -1,0 +1,5 @@
+pub mod RuleLaws
+pub mod StandLaws
+pub mod BehindLaws
+pub mod TurnLaws
+pub mod EmitLaws

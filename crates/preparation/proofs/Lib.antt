@@ -1,0 +1,2 @@
+pub mod PrepareLaws
+pub mod WideLaws
