@@ -1,6 +1,7 @@
 //! The assembly: cases, and what has to be answered.
 
 pub mod case;
+pub mod checking;
 pub mod examples;
 pub mod links;
 pub mod model;

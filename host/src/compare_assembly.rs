@@ -4,14 +4,13 @@
 
 mod library_assembly;
 
-use jilgyemot_host::assembling::case::Case;
-use jilgyemot_host::assembling::examples::{CHECKS, examples, of_example};
+use jilgyemot_host::assembling::checking::compare_examples;
+use jilgyemot_host::assembling::examples::examples;
 use jilgyemot_host::assembling::oracle::{REFUSALS, expected};
 use jilgyemot_host::assembling::sets::Sets;
 use jilgyemot_host::assembling::shorter::shorter;
 use jilgyemot_host::comparison::{Options, report};
 use jilgyemot_host::walking::comparing::{Call, Comparison};
-use jilgyemot_host::walking::limits::Limits;
 use jilgyemot_host::walking::null::{OrNull, compare_null};
 use library_assembly::{assemble, assemble_or_null};
 
@@ -20,22 +19,6 @@ const MANY: u64 = 200_000;
 
 /// The refusals that stand in a file.
 const IN_FILES: [u64; 5] = [5, 16, 17, 18, 19];
-
-/// Document 01's examples, K10 to K12 held to what it says of them, all at every
-/// limit that tells.
-fn compare_examples(comparison: &mut Comparison<Case>) -> Result<u64, String> {
-    let mut calls = 0;
-    for (example, answer, text) in CHECKS {
-        let case = of_example(example);
-        comparison.check(&case, &Limits::of(1_000, 0, 4), (answer, text))?;
-        calls += 1 + comparison.compare_at_edges(&case)?;
-    }
-    let checks = CHECKS.into_iter().map(|(example, ..)| of_example(example));
-    for case in checks.chain(examples()) {
-        calls += comparison.compare_at_all(&case)?;
-    }
-    Ok(calls)
-}
 
 /// Index, contents, list and buffers that are there or are null.
 fn compare_nulls() -> Result<u64, String> {
@@ -46,7 +29,7 @@ fn compare_nulls() -> Result<u64, String> {
 fn run(options: &Options) -> Result<u64, String> {
     let mut sets = Sets::new(options.seed);
     let mut comparison = Comparison::of(Call { function: assemble, expected, shorter });
-    let first = compare_nulls()? + compare_examples(&mut comparison)?;
+    let first = compare_nulls()? + compare_examples(&mut comparison, examples())?;
     let cases = comparison.run(options, first, || sets.next())?;
     println!("all members of up to {} whole lines", sets.members.complete());
     println!("{}", comparison.answers);

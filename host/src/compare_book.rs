@@ -4,8 +4,7 @@
 
 mod library_book;
 
-use jilgyemot_host::assembling::case::Case;
-use jilgyemot_host::assembling::examples::{CHECKS, of_example};
+use jilgyemot_host::assembling::checking::compare_examples;
 use jilgyemot_host::assembling::shorter::shorter;
 use jilgyemot_host::booking::examples::examples;
 use jilgyemot_host::booking::oracle::{REFUSALS, expected};
@@ -13,7 +12,6 @@ use jilgyemot_host::booking::sets::Sets;
 use jilgyemot_host::comparison::{Options, report};
 use jilgyemot_host::pointers::answer_with_allowance;
 use jilgyemot_host::walking::comparing::{Answers, Call, Comparison};
-use jilgyemot_host::walking::limits::Limits;
 use jilgyemot_host::walking::null::{OrNull, compare_null};
 use library_book::{book, jilgyemot_book};
 
@@ -31,21 +29,6 @@ fn is_complete(answers: &Answers) -> bool {
     answers.has_seen(&REFUSALS, &IN_FILES) && answers.deepest >= LONGEST_CHAIN
 }
 
-/// K10 to K12, of which a book gives the same as an assembly, and other examples, all at
-/// every limit that tells.
-fn compare_examples(comparison: &mut Comparison<Case>) -> Result<u64, String> {
-    let mut calls = 0;
-    for (example, answer, text) in CHECKS {
-        let case = of_example(example);
-        comparison.check(&case, &Limits::of(1_000, 0, 4), (answer, text))?;
-        calls += 1 + comparison.compare_at_edges(&case)?;
-    }
-    for case in examples() {
-        calls += comparison.compare_at_all(&case)?;
-    }
-    Ok(calls)
-}
-
 /// Index, contents, list and buffers that are there or are null.
 fn compare_nulls() -> Result<u64, String> {
     let call: OrNull =
@@ -56,7 +39,7 @@ fn compare_nulls() -> Result<u64, String> {
 fn run(options: &Options) -> Result<u64, String> {
     let mut sets = Sets::new(options.seed);
     let mut comparison = Comparison::of(Call { function: book, expected, shorter });
-    let first = compare_nulls()? + compare_examples(&mut comparison)?;
+    let first = compare_nulls()? + compare_examples(&mut comparison, examples())?;
     let cases = comparison.run(options, first, || sets.next())?;
     let answers = &comparison.answers;
     println!("all members of up to {} whole lines", sets.members.complete());

@@ -8,6 +8,7 @@ use crate::exhaustive::Exhaustive;
 use crate::generate::{damage, straddling_of};
 use crate::indexed::host_name;
 use crate::random::Random;
+use crate::walking::lines::few;
 use crate::walking::links::name;
 use crate::walking::set::{FileSet, OwnFile};
 
@@ -49,8 +50,7 @@ impl Sets {
 }
 
 fn lines(random: &mut Random) -> Vec<u8> {
-    let lines: Vec<&str> = (0..random.below(7)).map(|_| random.pick(&LINES)).collect();
-    lines.join("\n").into_bytes()
+    few(&LINES, random)
 }
 
 /// Two members, with a title before or behind their lines or with none more.

@@ -1,13 +1,16 @@
 //! File sets with a list and a URL for a book, the kinds by turns.
 
-use super::texts::{Manner, Writer};
+use super::texts::Writer;
 use crate::assembling::case::Case;
 use crate::assembling::sets as assemblies;
+use crate::assembling::texts as member;
 use crate::exhaustive::Exhaustive;
 use crate::filling::case::Case as Fill;
 use crate::filling::sets as fills;
 use crate::filling::sets::{Misnamed, Targets};
+use crate::filling::texts as host;
 use crate::random::Random;
+use crate::walking::lines::few;
 use crate::walking::set::{FileSet, Handed, OwnFile};
 
 /// Whole lines: every way through a member that is filled and assembled.
@@ -63,8 +66,7 @@ impl Sets {
 }
 
 fn lines(random: &mut Random) -> Vec<u8> {
-    let lines: Vec<&str> = (0..random.below(8)).map(|_| random.pick(&LINES)).collect();
-    lines.join("\n").into_bytes()
+    few(&LINES, random)
 }
 
 /// A member `m` of these lines that takes in `a` and `b`, and another one `n`.
@@ -162,6 +164,13 @@ fn later(counts: Counts, taking: Taking, most: usize, random: &mut Random) -> Ta
     targets
 }
 
+/// What the texts of a case may hold, as members and as hosts.
+#[derive(Clone, Copy)]
+struct Manner {
+    member: member::Manner,
+    host: host::Manner,
+}
+
 /// What the texts of a case hold, with a fault or two in some cases.
 fn manner(random: &mut Random) -> Manner {
     let (mut member, mut host) = (assemblies::manner(random), fills::manner(random));
@@ -189,7 +198,9 @@ fn built(
     for (number, (file, targets)) in names.iter().zip(&targets).enumerate() {
         let named = misnamed.targets(targets, &names, random);
         let headed = taking.is_headed(number, counts.members);
-        let text = Writer { manner, number, file, names: &names, random }.text(&named, headed);
+        let Manner { member: manner, host } = manner;
+        let member = member::Writer { manner, number, file, names: &names, random };
+        let text = Writer { member, host }.text(&named, headed);
         files.push((file.clone().into_bytes(), text));
     }
     assemblies::of_members(files, counts.members, lines, random)

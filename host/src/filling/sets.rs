@@ -7,6 +7,7 @@ use crate::generate::{damage, straddling};
 use crate::indexed::host_name;
 use crate::notes::notes;
 use crate::random::Random;
+use crate::walking::lines::few;
 use crate::walking::links::name;
 use crate::walking::set::{FileSet, OwnFile};
 
@@ -55,8 +56,7 @@ impl Sets {
 }
 
 fn lines(random: &mut Random) -> Vec<u8> {
-    let lines: Vec<&str> = (0..random.below(7)).map(|_| random.pick(&LINES)).collect();
-    lines.join("\n").into_bytes()
+    few(&LINES, random)
 }
 
 fn of_lines(host: Vec<u8>, a: Vec<u8>, b: Vec<u8>) -> Case {

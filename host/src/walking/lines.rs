@@ -50,6 +50,12 @@ pub fn joined(lines: &[String], random: &mut Random) -> Vec<u8> {
     text.into_bytes()
 }
 
+/// A few of these lines, the last without an end.
+pub fn few(lines: &[&str], random: &mut Random) -> Vec<u8> {
+    let lines: Vec<&str> = (0..random.below(7)).map(|_| random.pick(lines)).collect();
+    lines.join("\n").into_bytes()
+}
+
 /// Now and then a few blank lines.
 pub fn blank_lines(lines: &mut Vec<String>, random: &mut Random) {
     if random.one_in(4) {
