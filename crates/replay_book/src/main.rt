@@ -17,7 +17,7 @@ fn book_given(given: &[u8], at: Starts, limits: Limits, out: &mut [u8], work: &m
     let contents = at.contents;
     let list = at.third;
     let url = at.fourth;
-    let a = calls::books::book(
+    let a = book_call::book(
         &given[..contents],
         &given[contents..list],
         &given[list..url],
