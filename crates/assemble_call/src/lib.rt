@@ -31,6 +31,7 @@ fn run(
             let mut set = [0usize; 704];
             listed::put_files(&rows, &lines, count, &mut set);
             let limit = sizes.limit;
+            let table = limit;
             let text = assembly::assemble(
                 index,
                 contents,
@@ -38,7 +39,7 @@ fn run(
                 &mut set,
                 count,
                 limit,
-                limit,
+                table,
                 work,
             );
             give::answer_of(text, 0)
