@@ -1,15 +1,10 @@
 // The C interface of Jilgyemot, and nothing else.
-ghost use mathlib.Core.Path.{_≡_};
-ghost use lib.ListN.{length};
-ghost use Rattle.answer.specs.Answer.{numbers};
-ghost use Rattle.listing.specs.ScanCall.{answerOf as answerOfScan, outputOf};
-ghost use Rattle.book.specs.Calls.{fillOutcome, assembleOutcome, answerOf, outputAfter, workAfter};
+ghost use Rattle.book.specs.Contracts.{ScanCall, FillCall, AssembleCall, BookCall};
 
 // The marker scan of a text: its listing in the output, its answer as six numbers.
 #[no_mangle]
 pub extern "C" fn jilgyemot_scan(text: &[u8], out: &mut [u8], answer: &mut [u64; 6])
-    ensures { λ _. ⌜ now (answer .exit) ≡ numbers (answerOfScan (length (now (out .entry))) (now (text .entry))) ⌝ }
-    ensures { λ _. ⌜ now (out .exit) ≡ outputOf (answerOfScan (length (now (out .entry))) (now (text .entry))) (now (text .entry)) (now (out .entry)) ⌝ }
+    ensures { λ _. ⌜ ScanCall (now (text .entry)) (now (out .entry)) (now (answer .exit)) (now (out .exit)) ⌝ }
 {
     let a = listing::scan(text, out);
     *answer = answer::numbers(a);
@@ -28,9 +23,7 @@ pub extern "C" fn jilgyemot_fill(
     work: &mut [u8],
     answer: &mut [u64; 6],
 )
-    ensures { λ _. ⌜ now (answer .exit) ≡ numbers (answerOf (fillOutcome (now (index .entry)) (now (contents .entry)) (now (name .entry)) (now (text .entry)) limit allowance (length (now (out .entry))) (length (now (work .entry))))) ⌝ }
-    ensures { λ _. ⌜ now (out .exit) ≡ outputAfter (fillOutcome (now (index .entry)) (now (contents .entry)) (now (name .entry)) (now (text .entry)) limit allowance (length (now (out .entry))) (length (now (work .entry)))) (now (out .entry)) ⌝ }
-    ensures { λ _. ⌜ now (work .exit) ≡ workAfter (now (work .entry)) ⌝ }
+    ensures { λ _. ⌜ FillCall (now (index .entry)) (now (contents .entry)) (now (name .entry)) (now (text .entry)) limit allowance (now (out .entry)) (now (work .entry)) (now (answer .exit)) (now (out .exit)) (now (work .exit)) ⌝ }
 {
     let filled = fill_call::fill(
         index,
@@ -57,10 +50,28 @@ pub extern "C" fn jilgyemot_assemble(
     work: &mut [u8],
     answer: &mut [u64; 6],
 )
-    ensures { λ _. ⌜ now (answer .exit) ≡ numbers (answerOf (assembleOutcome (now (index .entry)) (now (contents .entry)) (now (list .entry)) (now (url .entry)) limit (length (now (out .entry))) (length (now (work .entry))))) ⌝ }
-    ensures { λ _. ⌜ now (out .exit) ≡ outputAfter (assembleOutcome (now (index .entry)) (now (contents .entry)) (now (list .entry)) (now (url .entry)) limit (length (now (out .entry))) (length (now (work .entry)))) (now (out .entry)) ⌝ }
-    ensures { λ _. ⌜ now (work .exit) ≡ workAfter (now (work .entry)) ⌝ }
+    ensures { λ _. ⌜ AssembleCall (now (index .entry)) (now (contents .entry)) (now (list .entry)) (now (url .entry)) limit (now (out .entry)) (now (work .entry)) (now (answer .exit)) (now (out .exit)) (now (work .exit)) ⌝ }
 {
     let assembled = assemble_call::assemble(index, contents, list, url, limit as usize, out, work);
     *answer = answer::numbers(assembled);
+}
+
+// A book of the members of a list, each filled, and all joined: its text in the output, its answer as six numbers.
+#[no_mangle]
+pub extern "C" fn jilgyemot_book(
+    index: &[u8],
+    contents: &[u8],
+    list: &[u8],
+    url: &[u8],
+    limit: u64,
+    allowance: u32,
+    out: &mut [u8],
+    work: &mut [u8],
+    answer: &mut [u64; 6],
+)
+    ensures { λ _. ⌜ BookCall (now (index .entry)) (now (contents .entry)) (now (list .entry)) (now (url .entry)) limit allowance (now (out .entry)) (now (work .entry)) (now (answer .exit)) (now (out .exit)) (now (work .exit)) ⌝ }
+{
+    let most = allowance as usize;
+    let made = book_call::book(index, contents, list, url, limit as usize, most, out, work);
+    *answer = answer::numbers(made);
 }

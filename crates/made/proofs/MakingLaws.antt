@@ -25,7 +25,7 @@ use Rattle.members.specs.declared.Member.{Member}
 use Rattle.members.proofs.MembersLaws.{put-length, member-put-same, member-put-other, files-more, files-at, files-end, files-up, files-set, source-up, inside-more, SameFile}
 use Rattle.book.specs.Book.{withTexts}
 use Rattle.book.specs.BookWalk.{walkAll}
-use Rattle.made.specs.Made.{slot, inWork, CanFill, CanMake, judgedAll, textsOf, AreMade}
+use Rattle.made.specs.Made.{slot, placedAt, CanFill, CanMake, judgedAll, textsOf, AreMade}
 use Rattle.made.proofs.JudgeLaws.{all-more, all-stop, behind, behind-none, behind-more, filled-given, filled-stopped}
 
 -- members that differ at most in where their texts lie and in their outlines
@@ -50,6 +50,10 @@ pub record Changed (L contents stop : ℕ) (set set' : List ℕ) (i : ℕ) : Typ
   pub others : (j : ℕ) → (j ≡ i → ⊥) → memberAt set' j ≡ memberAt set j
   pub same : SameName (memberAt set' i) (memberAt set i)
   pub inside : Inside (memberAt set' i .source) L contents stop
+
+-- a member whose text lies in the work buffer
+abbrev pub inWork : Member → ℕ → ℕ → Member
+inWork m a e = placedAt m (record { work = true; start = a; end = e })
 
 -- ---- slots
 

@@ -2,7 +2,7 @@
 -- `proofs/` tie it to the walk of the book.
 use Prim.Native.Nat.{ℕ, suc, _+_, _*_, _≤_, _<_}
 use mathlib.Core.Path.{_≡_}
-use mathlib.Core.Bool.{true, false}
+use mathlib.Core.Bool.{false}
 use mathlib.Core.List.{List, map}
 use lib.ListN.{length}
 use Rattle.index.specs.Index.{File}
@@ -10,6 +10,7 @@ use Rattle.walk.specs.Steps.{Steps, go, Judged, given, refused, judge}
 use Rattle.chains.specs.Chains.{startAt}
 use Rattle.assembled.specs.Assemble.{assemble}
 use Rattle.filling.specs.Filling.{Ready}
+use Rattle.put.specs.declared.Source.{Source}
 use Rattle.members.specs.Members.{memberAt, Lies, AllLie}
 use Rattle.members.specs.declared.Member.{Member}
 use Rattle.listed.specs.Files.{noOutline}
@@ -22,9 +23,9 @@ use Rattle.made.specs.declared.Made.the-variants.{All, Refused}
 abbrev pub slot : ℕ → ℕ → ℕ
 slot L i = (i + 1) * L
 
--- a member whose text lies in the work buffer
-abbrev pub inWork : Member → ℕ → ℕ → Member
-inWork m a e = record { name = m .name; file = m .file; source = record { work = true; start = a; end = e }; outline = noOutline }
+-- a member whose text lies at another place
+abbrev pub placedAt : Member → Source → Member
+placedAt m s = record { name = m .name; file = m .file; source = s; outline = noOutline }
 
 -- a member that stands in the contents can be filled from a place of a work buffer of so many bytes on, which has room for it and each of n records
 pub record CanFill (index rows : List ℕ) (contents : ℕ) (m : Member) (n L at work : ℕ) : Type 0 where

@@ -6,7 +6,7 @@ ghost use Rattle.chains.specs.Chains.{startAt};
 ghost use Rattle.chains.specs.Fill.{filled};
 ghost use Rattle.filling.specs.Filling.{readFilled, filesIn, FilledWithin};
 ghost use Rattle.members.specs.Members.{fileIn, filesFrom, AllLie};
-ghost use Rattle.made.specs.Made.{slot, inWork, CanFill, CanMake, MadeOf};
+ghost use Rattle.made.specs.Made.{slot, placedAt, CanFill, CanMake, MadeOf};
 use answer::Refusal;
 use filling::Filled;
 use filling::Filling;
@@ -19,19 +19,15 @@ pub enum Made {
     Refused(Refusal),
 }
 
-// A member whose text lies in the work buffer now.
-fn in_work(m: Member, start: usize, end: usize) -> Member
-    ensures { λ r. ⌜ r ≡ inWork m start end ⌝ }
+// A member whose text lies at another place now.
+fn placed(m: Member, source: Source) -> Member
+    ensures { λ r. ⌜ r ≡ placedAt m source ⌝ }
 {
     let name = m.name;
     Member {
         name,
         file: m.file,
-        source: Source {
-            work: true,
-            start,
-            end,
-        },
+        source,
         outline: listed::no_outline(),
     }
 }
@@ -102,7 +98,13 @@ pub fn put_made(
         let slot = (i + 1) * limit;
         match fill_member(index, rows, contents, m, at, slot, work) {
             Filled::Text { length, files } => {
-                members::put_member(set, i, in_work(m, slot, slot + length));
+                let end = slot + length;
+                let filled = Source {
+                    work: true,
+                    start: slot,
+                    end,
+                };
+                members::put_member(set, i, placed(m, filled));
                 used = files;
                 i += 1;
             }

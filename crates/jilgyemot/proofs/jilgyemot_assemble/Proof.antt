@@ -1,6 +1,5 @@
 -- `jilgyemot::jilgyemot_assemble` meets its contract: the call's answer, as numbers. Assumes nothing.
-use mathlib.Core.Path.{ap, _∙_}
-use Rattle.answer.specs.Answer.{numbers}
+use Rattle.jilgyemot.proofs.CallLaws.{call-told}
 use borrow.Author.Needs.{needs}
 use Rattle.jilgyemot.proofs.jilgyemot_assemble.Statement.{statement}
 use Rattle.jilgyemot.proofs.jilgyemot_assemble.Tie as tie
@@ -18,7 +17,7 @@ same-length-2 : tie.Need-same-length-2
 same-length-2 c = search needs
 
 returns : tie.Need-returns
-returns c = let f = c .before .before .before .before .before .assemble in (c .numbers .ensures ∙ ap numbers (f .ensures .0), f .ensures .1)
+returns c = call-told _ (c .numbers .ensures) (c .before .before .before .before .before .assemble .ensures)
 
 pub jilgyemot-assemble-spec : {M : Type 1} → statement M
 jilgyemot-assemble-spec = tie.close (tie.spec assemble-requires numbers-requires same-length same-length-2 returns)

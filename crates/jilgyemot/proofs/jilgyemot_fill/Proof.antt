@@ -1,6 +1,5 @@
 -- `jilgyemot::jilgyemot_fill` meets its contract: the call's answer, as numbers. Assumes nothing.
-use mathlib.Core.Path.{ap, _∙_}
-use Rattle.answer.specs.Answer.{numbers}
+use Rattle.jilgyemot.proofs.CallLaws.{call-told}
 use borrow.Author.Needs.{needs}
 use Rattle.jilgyemot.proofs.jilgyemot_fill.Statement.{statement}
 use Rattle.jilgyemot.proofs.jilgyemot_fill.Tie as tie
@@ -18,7 +17,7 @@ same-length-2 : tie.Need-same-length-2
 same-length-2 c = search needs
 
 returns : tie.Need-returns
-returns c = let f = c .before .before .before .before .before .fill in (c .numbers .ensures ∙ ap numbers (f .ensures .0), f .ensures .1)
+returns c = call-told _ (c .numbers .ensures) (c .before .before .before .before .before .fill .ensures)
 
 pub jilgyemot-fill-spec : {M : Type 1} → statement M
 jilgyemot-fill-spec = tie.close (tie.spec fill-requires numbers-requires same-length same-length-2 returns)

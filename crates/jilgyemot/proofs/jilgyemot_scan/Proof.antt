@@ -15,7 +15,7 @@ same-length : tie.Need-same-length
 same-length c = search needs
 
 returns : tie.Need-returns
-returns c = (c .numbers .ensures ∙ ap numbers (c .before .before .before .scan .ensures .0), rw (← c .before .before .before .scan .ensures .0) (c .before .before .before .scan .ensures .1))
+returns c = let f = c .before .before .before .scan in record { numbers = c .numbers .ensures ∙ ap numbers (f .ensures .0); output = rw (← f .ensures .0) (f .ensures .1) }
 
 pub jilgyemot-scan-spec : {M : Type 1} → statement M
 jilgyemot-scan-spec = tie.close (tie.spec scan-requires numbers-requires same-length returns)

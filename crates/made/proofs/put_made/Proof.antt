@@ -42,13 +42,13 @@ fill-member-requires c κs = let l = c .before .before .before .before .loop in 
 enum-known-length : tie.Need-enum-known-length Inv-loop μ-loop
 enum-known-length c = search needs
 
-add-in-work : tie.Need-add-in-work Inv-loop μ-loop
-add-in-work c = let a = c .before .before .before .before .before .before .before .before .before .before .before .before .before .before .before .args in
-    let h : c .before .before .length .given .0 .0 ≤ a .limit = rw (c .before .before .length .given .1) at (c .before .before .before .before .before .before .fill-member .ensures .1 .0) in
-    omega (arith, slots-fit (a .limit) (a .records) (a .count) (length (a .work .now)) (c .before .before .before .before .before .before .before .before .before .before .before .loop .i) (c .before .before .before .before .before .before .before .before .before .before .before .before .before .before .before .pre .room) (omega arith), suc-mul (a .records) (a .limit), c .before .before .before .before .before .before .before .before .before .before .before .before .before .before .before .good .1 .1 .1 .1 .1 .1 .1 .1 .0)
+add-end : tie.Need-add-end Inv-loop μ-loop
+add-end c = let a = c .before .before .before .before .before .before .before .before .before .before .before .before .before .before .args in
+    let h : c .before .length .given .0 .0 ≤ a .limit = rw (c .before .length .given .1) at (c .before .before .before .before .before .fill-member .ensures .1 .0) in
+    omega (arith, slots-fit (a .limit) (a .records) (a .count) (length (a .work .now)) (c .before .before .before .before .before .before .before .before .before .before .loop .i) (c .before .before .before .before .before .before .before .before .before .before .before .before .before .before .pre .room) (omega arith), suc-mul (a .records) (a .limit), c .before .before .before .before .before .before .before .before .before .before .before .before .before .before .good .1 .1 .1 .1 .1 .1 .1 .1 .0)
 
-in-work-requires : tie.Need-in-work-requires Inv-loop μ-loop
-in-work-requires c κs = search needs
+placed-requires : tie.Need-placed-requires Inv-loop μ-loop
+placed-requires c κs = search needs
 
 put-member-requires : tie.Need-put-member-requires Inv-loop μ-loop
 put-member-requires c κs = omega (arith, c .before .before .before .before .before .before .before .before .before .before .before .before .before .before .before .before .pre .lie .few)
@@ -65,7 +65,7 @@ loop-again c = let a = c .before .before .before .before .before .before .before
     let fits : g .0 .0 ≤ a .limit = rw (g .1) at (f .ensures .1 .0) in
     let q : text (take (g .0 .0) (drop (slot (a .limit) (l .i)) w)) (g .0 .1 .0) ≡ filled (a .allowance) (a .limit) (l .used) (startAt (filesIn (a .index .now) (a .rows .now) (a .contents .now) (a .records)) (fileIn (a .index .now) (a .contents .now) (l .work) (m .result))) = rw (g .1) at (f .ensures .0) in
     making-filled (l .inv) here (c .before .before .before .before .before .before .before .before .before .before .before .before .before .before .before .before .before .pre .stand (l .i) here) (m .result) (m .ensures) w (f .ensures .1 .1) (omega arith) (c .put-member .last .0) (g .0 .0) (g .0 .1 .0) fits
-    (c .put-member .ensures ∙ ap (λ (x : Member). sets (l .set) (11 * l .i) (numbersOf x)) (c .before .in-work .ensures)) q
+    (c .put-member .ensures ∙ ap (λ (x : Member). sets (l .set) (11 * l .i) (numbersOf x)) (c .before .placed .ensures)) q
 
 enum-told : tie.Need-enum-told Inv-loop μ-loop
 enum-told c = search needs
@@ -110,8 +110,8 @@ put-made-spec =
     mul-slot
     fill-member-requires
     enum-known-length
-    add-in-work
-    in-work-requires
+    add-end
+    placed-requires
     put-member-requires
     add-i
     loop-less
