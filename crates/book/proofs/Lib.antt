@@ -3,3 +3,4 @@ pub mod DemandLaws
 pub mod Demand
 pub mod Checks
 pub mod ListLaws
+pub mod PlaceLaws

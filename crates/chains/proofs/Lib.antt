@@ -7,3 +7,4 @@ pub mod FillLaws
 pub mod FaultLaws
 pub mod TextLaws
 pub mod NumberLaws
+pub mod PlaceLaws

@@ -1,2 +1,3 @@
 pub mod NumbersLaws
 pub mod Demand3
+pub mod Demand1

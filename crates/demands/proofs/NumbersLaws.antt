@@ -1,11 +1,11 @@
 -- Laws of the six numbers: what an outcome is by them, and where its text stands. Assumes nothing.
 use Prim.Native.Nat.{ℕ, _≤_, _<_}
 use native.Mathlib.Omega.{arith}
-use mathlib.Core.Path.{_≡_, refl, ap, _∙_}
+use mathlib.Core.Path.{_≡_, refl, _∙_}
 use mathlib.Core.List.{List, _++_}
-use lib.ListN.{length, take, drop, length-append, length-drop}
+use lib.ListN.{length, drop, length-append, length-drop}
 use lib.Seq.{take-append-seam, drop-append-seam}
-use Rattle.answer.specs.Answer.{number, numbers}
+use Rattle.answer.specs.Answer.{numbers}
 use Rattle.answer.specs.declared.Refusal.{Refusal}
 use Rattle.walk.specs.Outcome.{Outcome, text, noRegion, refusal}
 use Rattle.book.specs.Calls.{answerOf}

@@ -1,2 +1,3 @@
 pub mod Numbers
 pub mod Demand3
+pub mod Demand1

@@ -23,5 +23,20 @@ lengthOf answer = numberAt answer 1
 abbrev pub filesOf : List ℕ → ℕ
 filesOf answer = numberAt answer 2
 
+abbrev pub refusalNumber : List ℕ → ℕ
+refusalNumber answer = numberAt answer 1
+
 abbrev pub RefusedBy : List ℕ → ℕ → Type 0
-RefusedBy answer n = Refused answer × (numberAt answer 1 ≡ n)
+RefusedBy answer n = Refused answer × (refusalNumber answer ≡ n)
+
+abbrev pub placeFile : List ℕ → ℕ
+placeFile answer = numberAt answer 2
+
+abbrev pub placeLine : List ℕ → ℕ
+placeLine answer = numberAt answer 3
+
+abbrev pub secondFile : List ℕ → ℕ
+secondFile answer = numberAt answer 4
+
+abbrev pub secondLine : List ℕ → ℕ
+secondLine answer = numberAt answer 5

@@ -1,3 +1,4 @@
 pub mod MemberLaws
 pub mod CheckLaws
 pub mod PassedLaws
+pub mod PlaceLaws
