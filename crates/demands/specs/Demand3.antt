@@ -34,7 +34,8 @@ pub record Begins (t out out′ : List ℕ) : Type 0 where
   pub whole : length out′ ≡ length out
 
 pub record Demand3 (index contents list url : List ℕ) : Type 0 where
-  -- "The book is given exactly when nothing reached has a fault, the files taken in are within the allowance and no running text passes the limit"
+  -- "The book is given exactly when nothing reached has a fault, the files taken in are within the allowance and no running text passes the limit". `Sound` says: no chain that is reached has a fault, nor
+  -- has the assembly; the chains of two or more files are at most B; no running text of a chain or of the assembly has over L bytes
   pub exactly-when : (c : Call index contents list url) → Accepted (c .answer) ↔ Sound (c .B) (c .L) (fileSet index contents) (listed index list) url
   -- "its text and count are as defined on chains"
   pub as-defined : (c : Call index contents list url) → Accepted (c .answer)

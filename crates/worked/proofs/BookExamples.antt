@@ -1,4 +1,4 @@
--- Books on bytes: nested files, the allowance running on, a member kept as it stands, and refusals 9 to 19 but for those of the input. Assumes nothing.
+-- Books on bytes: nested files, the allowance running on, a member kept as it stands, and each of refusals 9 to 19. Assumes nothing.
 use Prim.Native.Nat.{ℕ, _+_, _*_}
 use Prim.Native.String.{String}
 use mathlib.Core.List.{List, [], _∷_, _++_}
@@ -9,14 +9,13 @@ use Rattle.answer.specs.declared.Refusal.the-variants.{NestedRegion, FragmentMa
 use Rattle.text.specs.Pattern.{bytes}
 use Rattle.text.specs.Ascii.{wideLine}
 use Rattle.text.specs.Bytes.{any, first, count, afterLast}
-use Rattle.buffer.specs.Decimal.{digits, decimal, numberFrom}
-use Rattle.text.specs.Lines.{breaks, linesFrom, lineEnd, lineNext}
+use Rattle.buffer.specs.Decimal.{numberFrom}
+use Rattle.text.specs.Lines.{breaks, linesFrom}
 use Rattle.text.specs.Pattern.{startsWith, endsWith, equals, find}
 use Rattle.text.specs.Space.{isSpace, lead, kept, trimStart, trimEnd, trim, isBlank}
 use Rattle.text.specs.Split.{split, join}
 use Rattle.marker.specs.Marker.{pathOf, namedOf, restOf, aloneOf, fragmentOf, textOf, specOf, markOf, firstOf, nextMark, fragmentKind, markedKind, kindOf}
 use Rattle.scan.specs.Scan.{readBy, readFrom, readLine, spanEvents, eventsOf, after, kindAt, lastOf, scanFrom, scan, regionsOf}
-use Rattle.listing.specs.ScanCall.{answerOf, outputOf}
 use Rattle.anchor.specs.Anchor.{shows, markupAfter, plainFrom, anchorOf, slug, plainEndFrom}
 use Rattle.text.specs.Ascii.{lower}
 use Rattle.heading.specs.Contents.{isLowered, isContents, drops}
@@ -26,26 +25,24 @@ use Rattle.heading.specs.Walk.{hashes, textStart, textEnd, headingOf, closes, o
 use Rattle.link.specs.Links.{relink, relinkOpen, relinkTarget}
 use Rattle.path.specs.Path.{step, walked, resolve}
 use Rattle.link.specs.Target.{targetOf, rewriteTarget, anchorSelf}
-use Rattle.fileset.specs.Check.{indexChecked, fillChecked, bookChecked}
+use Rattle.fileset.specs.Check.{indexChecked, bookChecked}
 use Rattle.index.specs.Records.{pastFrom, twiceFrom, wideFrom}
 use Rattle.index.specs.Index.{records, isName, fieldOf, lineOf, illFormedFrom, recordsFrom, filesFrom, firstNamed}
 use Rattle.fileset.specs.Members.{names, absentFrom, membersFrom}
-use Rattle.walk.specs.Steps.{go, ends, fails, takes, sizes, judge}
-use Rattle.chains.specs.Chains.{next, through, grow, free, made, madeRest, faultsRest, runningRest, regionIn, leads, timesIn}
-use Rattle.chains.proofs.ChainLaws.{longer, longerRest, extended}
+use Rattle.walk.specs.Steps.{go, judge}
+use Rattle.chains.specs.Chains.{next, through, grow, free}
 use Rattle.embedding.specs.Embed.{isMarker, unmarkedFrom, embeddedLines, embedTold, embed}
 use Rattle.chains.specs.Fill.{walk, walkRest}
 use Rattle.regions.specs.Regions.{problemsOf, isWithin, blankedFrom, lastLevel, regionsFrom, scanned}
 use Rattle.shift.specs.Shift.{toldFrom, pastFrom as pastFrom-of-shift, upTo, blanks}
 use Rattle.assembled.specs.Assemble.{prepareAll, emitAll, assemble}
-use Rattle.assembled.specs.Assembled.{preparedAll, joinedAll, assembledText, eachFaults, eachMade, present, joins}
 use Rattle.member.specs.Member.{withoutContents, preparedLines, titleOf, prepare, movable}
 use Rattle.shared.specs.Shared.{lineOf as lineOf-of-assemblyMember, earlier, sharedIn, sharedFrom}
 use Rattle.target.specs.Titles.{titleNamed}
 use Rattle.emission.specs.Emit.{emit}
 use Rattle.book.specs.BookWalk.{walkAll, book}
-use Rattle.book.specs.Book.{withTexts, madeAll, bookText, madeMembers}
-use Rattle.book.specs.Calls.{fillOutcome, assembleOutcome, bookOutcome}
+use Rattle.book.specs.Book.{withTexts}
+use Rattle.book.specs.Calls.{bookOutcome}
 use Rattle.walk.specs.Outcome.{Outcome, text, refusal}
 
 -- a book with buffers of just the size that L asks for
@@ -90,5 +87,5 @@ Examples =
     × (one "4" "b\na\n" 99 9 "# A\n" ≡ text (bytes "# B\n\n---\n\n# A\n") 0))))))))))))))))))
 
 pub examples : Examples
-unfolding wideLine any first count afterLast digits decimal numberFrom breaks linesFrom lineEnd lineNext startsWith endsWith equals find isSpace lead kept trimStart trimEnd trim isBlank split join isFence pathOf namedOf restOf aloneOf fragmentOf textOf specOf markOf firstOf nextMark fragmentKind markedKind kindOf readBy readFrom readLine spanEvents eventsOf after kindAt lastOf scanFrom scan regionsOf answerOf outputOf shows markupAfter plainFrom anchorOf slug plainEndFrom lower isLowered isContents drops shallowestOf hashes textStart textEnd headingOf opener closes opensComment writtenKind commentAfter outsideKind outsideAfter stepKind stepAfter kindsFrom relink relinkOpen relinkTarget step walked resolve targetOf rewriteTarget anchorSelf pastFrom twiceFrom indexChecked wideFrom fillChecked bookChecked isName fieldOf lineOf illFormedFrom recordsFrom filesFrom firstNamed absentFrom membersFrom go ends fails takes sizes judge next through grow free longer longerRest made madeRest faultsRest runningRest extended regionIn leads timesIn isMarker unmarkedFrom embeddedLines embedTold embed walk walkRest problemsOf isWithin blankedFrom lastLevel regionsFrom scanned toldFrom pastFrom-of-shift upTo blanks prepareAll emitAll assemble preparedAll joinedAll assembledText eachFaults eachMade present joins withoutContents preparedLines titleOf prepare lineOf-of-assemblyMember earlier sharedIn sharedFrom movable titleNamed emit walkAll withTexts book madeAll bookText madeMembers fillOutcome assembleOutcome bookOutcome
+unfolding wideLine any first count afterLast numberFrom breaks linesFrom startsWith endsWith equals find isSpace lead kept trimStart trimEnd trim isBlank split join isFence pathOf namedOf restOf aloneOf fragmentOf textOf specOf markOf firstOf nextMark fragmentKind markedKind kindOf readBy readFrom readLine spanEvents eventsOf after kindAt lastOf scanFrom scan regionsOf shows markupAfter plainFrom anchorOf slug plainEndFrom lower isLowered isContents drops shallowestOf hashes textStart textEnd headingOf opener closes opensComment writtenKind commentAfter outsideKind outsideAfter stepKind stepAfter kindsFrom relink relinkOpen relinkTarget step walked resolve targetOf rewriteTarget anchorSelf pastFrom twiceFrom indexChecked wideFrom bookChecked isName fieldOf lineOf illFormedFrom recordsFrom filesFrom firstNamed absentFrom membersFrom go judge next through grow free isMarker unmarkedFrom embeddedLines embedTold embed walk walkRest problemsOf isWithin blankedFrom lastLevel regionsFrom scanned toldFrom pastFrom-of-shift upTo blanks prepareAll emitAll assemble withoutContents preparedLines titleOf prepare lineOf-of-assemblyMember earlier sharedIn sharedFrom movable titleNamed emit walkAll withTexts book bookOutcome
 examples = (refl, (refl, (refl, (refl, (refl, (refl, (refl, (refl, (refl, (refl, (refl, (refl, (refl, (refl, (refl, (refl, (refl, (refl, refl))))))))))))))))))
