@@ -1,6 +1,5 @@
 // The call assemble: the members of a list joined into one text, in the output.
 ghost use mathlib.Core.Path.{_≡_};
-ghost use Prim.Native.Nat.{_≤_};
 ghost use lib.ListN.{length};
 ghost use Rattle.book.specs.Calls.{assembleOutcome, answerOf, outputAfter, workAfter};
 ghost use Rattle.give.specs.Given.{readAnswer, Fits};

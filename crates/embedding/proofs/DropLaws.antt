@@ -12,13 +12,11 @@ use lib.Dec.{eqb, ltb}
 use borrow.Author.Tests.{ltb-true, ltb-false}
 use Rattle.text.specs.Bytes.{part, is, first}
 use Rattle.text.specs.Lines.{LF, pieces, linesFrom, lineNext}
-use Rattle.text.specs.Split.{onto, split, join}
+use Rattle.text.specs.Split.{onto, split}
 use Rattle.text.proofs.BytesLaws.{first-le, drop-take, part-full}
 use Rattle.text.proofs.SplitLaws.{split-some}
-use Rattle.text.proofs.LedLaws.{join-split}
 use Rattle.text.proofs.LineLaws.{line-next, line-last, line-within}
 use Rattle.buffer.proofs.BufferLaws.{sets-append, drop-past, take-sets}
-use Rattle.heading.specs.Walk.{walkBegin}
 use Rattle.scan.specs.Scan.{begin, scanFrom, scan, regionsOf}
 use Rattle.scan.specs.Regions.{regionsFrom}
 use Rattle.scan.specs.declared.event.Region.{Region}
@@ -27,8 +25,8 @@ use Rattle.regions.specs.Hosts.{LineFrom}
 use Rattle.regions.proofs.PlaceLaws.{Starts, Placed, starts-next}
 use Rattle.regions.proofs.CursorLaws.{regions-behind, line-starts, pieces-upto, next-ordered, next-placed, next-line}
 use Rattle.shift.proofs.EndsLaws.{ends-more}
-use Rattle.shift.specs.Shift.{dropStart, dropEnd, toldFrom}
-use Rattle.embedding.specs.Embed.{unmarkedFrom, embeddedLines}
+use Rattle.shift.specs.Shift.{dropStart, dropEnd}
+use Rattle.embedding.specs.Embed.{unmarkedFrom}
 use Rattle.embedding.specs.Unmarked.{Unmarked, lineAfter}
 use Rattle.embedding.proofs.UnmarkedLaws.{unmarked-next, unmarked-end}
 

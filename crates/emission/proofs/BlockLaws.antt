@@ -1,6 +1,5 @@
 -- Laws of lines that neither change nor have a link, put as a block. Assumes nothing.
 use Prim.Native.Nat.{ℕ, zero, suc, _+_, _-_, _≤_, _<_}
-use native.Mathlib.Numerals.{add-one}
 use native.Mathlib.Omega.{arith}
 use mathlib.Core.Path.{_≡_, refl, sym, ap, _∙_}
 use mathlib.Core.Bool.{Bool, true, false, cond}
@@ -17,7 +16,6 @@ use Rattle.anchor.proofs.AnchorLaws.{part-cons}
 use Rattle.fence.specs.declared.Fence.{Fence}
 use Rattle.fence.specs.declared.Fence.the-variants.{Outside, Ticks, Tildes}
 use Rattle.heading.specs.Walk.{stillKind}
-use Rattle.shift.specs.Shift.{Told}
 use Rattle.member.specs.Lines.{leftOf, CursorIn}
 use Rattle.member.specs.Seen.{titledBy}
 use Rattle.member.specs.Passed.{Unlinked, PassedLine, PassedLines, PassedTo}

@@ -3,7 +3,7 @@ use Prim.Native.Nat.{ℕ, zero, suc, _+_, _-_, _≤_, _<_}
 use native.Mathlib.Numerals.{add-one}
 use native.Mathlib.Omega.{arith}
 use mathlib.Core.Path.{_≡_, refl, sym, ap, subst, _∙_}
-use mathlib.Core.Bool.{Bool, true, false, cond, _||_}
+use mathlib.Core.Bool.{Bool, true, false, cond}
 use mathlib.Core.List.{List, [], _∷_, _++_, map}
 use denote.Enum.Declared.{tagOf}
 use types.Run.{OneOf, miss}
@@ -13,7 +13,6 @@ use lib.ListN.{length}
 use Rattle.text.specs.Bytes.{part}
 use Rattle.text.specs.Lines.{LF, led}
 use Rattle.text.specs.Split.{join}
-use Rattle.text.proofs.BytesLaws.{part-full}
 use Rattle.text.proofs.LedLaws.{join-led}
 use Rattle.heading.specs.Level.{movedTo}
 use Rattle.heading.specs.declared.level.Moved.{Moved}
@@ -31,13 +30,10 @@ use Rattle.put.specs.declared.Room.{Room}
 use Rattle.put.specs.declared.Put.{Put}
 use Rattle.put.specs.declared.line.NewText.{NewText}
 use Rattle.text.proofs.PartLaws.{part-part}
-use Rattle.put.proofs.NewTextLaws.{heading-linked, kind-in, TextIn, text-in}
-use Rattle.put.proofs.PutLaws.{Reached, roomAt, reached-start, reached-next, reached-over, reached-end, source-length, source-same}
+use Rattle.put.proofs.NewTextLaws.{heading-linked, TextIn, text-in}
+use Rattle.put.proofs.PutLaws.{Reached, roomAt}
 use Rattle.member.specs.Member.{movable}
 use Rattle.member.specs.Seen.{titledBy, movedKind}
-use Rattle.member.specs.Lines.{leftOf, atFirst, CursorIn, IsLine}
-use Rattle.member.specs.declared.lines.LineCursor.{LineCursor}
-use Rattle.member.proofs.LinesLaws.{lines-on}
 use Rattle.emission.proofs.LineLaws.{level-over, level-put, text-able, text-put}
 use Rattle.emission.specs.Emission.{emittedLine, breakBefore, levelOf}
 

@@ -1,5 +1,4 @@
 // A member's lines put behind the text so far: headings moved but for the title, links outside fences rewritten.
-ghost use mathlib.Core.Path.{_≡_};
 ghost use mathlib.Core.List.{_++_};
 ghost use Prim.Native.Nat.{suc, _+_, _-_, _≤_, _<_};
 ghost use lib.ListN.{length};

@@ -1,22 +1,20 @@
 -- Laws of the call fill: its answer by what was filled, and what `fill_regions` asks for once the checks pass. Assumes nothing.
-use Prim.Native.Nat.{ℕ, suc, _+_, _*_, _≤_, _<_}
-use native.Mathlib.Nat.{add-zero, suc-mul}
+use Prim.Native.Nat.{ℕ, suc, _+_, _*_, _≤_}
+use native.Mathlib.Nat.{suc-mul}
 use native.Mathlib.Omega.{arith}
-use mathlib.Core.Path.{_≡_, refl, _∙_, ap}
-use mathlib.Core.Bool.{false}
-use mathlib.Core.List.{List, [], _∷_}
+use mathlib.Core.Path.{_≡_, refl, _∙_}
+use mathlib.Core.List.{List}
 use lib.ListN.{length, take}
 use Rattle.text.specs.Bytes.{is, count}
 use Rattle.text.specs.Lines.{LF}
-use Rattle.index.specs.Index.{File, fileOf, records, filesFrom, files}
+use Rattle.index.specs.Index.{fileOf, records, filesFrom}
 use Rattle.index.specs.Rows.{recordsIn}
 use Rattle.fileset.specs.Check.{fillChecked, Passes}
-use Rattle.fileset.specs.declared.check.Checked.{Checked}
 use Rattle.fileset.specs.declared.check.Checked.the-variants.{Passed, Refused as Stopped}
 use Rattle.fileset.proofs.CheckLaws.{rows-same}
 use Rattle.fileset.proofs.PassedLaws.{fill-fit}
 use Rattle.listed.proofs.FilesLaws.{rows-ready}
-use Rattle.chains.specs.Chains.{free, noMarks, chain, startAt}
+use Rattle.chains.specs.Chains.{free, noMarks, chain}
 use Rattle.walk.specs.Outcome.{Outcome, refusal}
 use Rattle.chains.specs.Fill.{filled}
 use Rattle.filling.specs.declared.Filled.{Filled}

@@ -1,6 +1,5 @@
 // The call fill: the host handed in with its regions filled, in the output.
 ghost use mathlib.Core.Path.{_≡_};
-ghost use Prim.Native.Nat.{_≤_};
 ghost use lib.ListN.{length};
 ghost use Rattle.book.specs.Calls.{fillOutcome, answerOf, outputAfter, workAfter};
 ghost use Rattle.give.specs.Given.{readAnswer, Fits};

@@ -2,10 +2,9 @@
 use Prim.Native.Nat.{ℕ, zero, suc, _+_, _-_, _*_, _≤_, _<_}
 use native.Mathlib.Nat.{suc-mul}
 use native.Mathlib.Omega.{arith}
-use mathlib.Core.Path.{_≡_, refl, sym, _∙_, ap}
-use mathlib.Core.Bool.{Bool, true, false, cond}
-use mathlib.Core.List.{List, [], _++_, append-nil}
-use lib.Dec.{leb}
+use mathlib.Core.Path.{_≡_, refl, _∙_, ap}
+use mathlib.Core.Bool.{Bool, true, false}
+use mathlib.Core.List.{List, _++_, append-nil}
 use lib.ListN.{length, getD, take, drop, set, replicate, length-append, length-drop, drop-of-length-le}
 use lib.Seq.{sets, sets-eq, length-take-le, take-all, take-append-le, take-take, take-at, drop-at, take-set-lt, getD-take}
 use borrow.Author.Tests.{le-leb, lt-leb}

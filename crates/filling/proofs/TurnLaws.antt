@@ -1,5 +1,5 @@
 -- One region of a host in the loop of a fill: what is put before it, where it leads, what its file becomes behind it; and the lines behind the last region. Assumes nothing.
-use Prim.Native.Nat.{ℕ, zero, suc, _+_, _≤_, _<_}
+use Prim.Native.Nat.{ℕ, suc, _<_}
 use native.Mathlib.Omega.{arith}
 use mathlib.Core.Path.{_≡_, refl, sym, _∙_, ap}
 use mathlib.Core.Bool.{Bool, true, false, cond}
@@ -27,7 +27,7 @@ use Rattle.embedding.specs.Embed.{embed, embedTold, embeddedLines}
 use Rattle.insertion.specs.Insertion.{joined, stopped, insertedOf, tested}
 use Rattle.filling.specs.declared.Named.{Named}
 use Rattle.filling.specs.declared.Named.the-variants.{File as Names, Refused as Unnamed}
-use Rattle.chains.specs.Chains.{Chain, Rest, last, fileAt, Next, stop, on, next, nextFound, through, headed, textOf, nextNamed}
+use Rattle.chains.specs.Chains.{Chain, Rest, fileAt, Next, stop, on, next, nextFound, through, textOf, nextNamed}
 use Rattle.walk.specs.Outcome.{Outcome, text, noRegion, refusal, outcome}
 use Rattle.chains.specs.Fill.{walk, walkRest}
 use Rattle.filling.specs.Filling.{withFiles, namedOf, Entry, enters, barred, entered, joinedEntry, entryOf, embeddedBy, Running, Turned}

@@ -1,6 +1,5 @@
 // What a call gives once its text stands at the front of the work buffer.
 ghost use mathlib.Core.Path.{_≡_};
-ghost use Prim.Native.Nat.{_≤_};
 ghost use lib.ListN.{length};
 ghost use Rattle.book.specs.Calls.{workAfter};
 ghost use Rattle.give.specs.Given.{assembled, copied, Fits};

@@ -4,18 +4,18 @@ use Prim.Native.Nat.{ℕ, zero, suc, _+_, _*_, _≤_, _<_}
 use native.Mathlib.Nat.{add-zero, not-suc-le-zero}
 use native.Mathlib.Omega.{arith}
 use mathlib.Core.Path.{_≡_, refl, sym, ap, _∙_}
-use mathlib.Core.Bool.{Bool, true, false, cond}
+use mathlib.Core.Bool.{false, cond}
 use mathlib.Core.List.{List, [], _∷_, map}
-use lib.ListN.{length, take, getD}
+use lib.ListN.{length, getD}
 use lib.Seq.{sets, getD-take}
 use borrow.Author.Count.{below-more}
-use Rattle.text.specs.Bytes.{part, is, count}
+use Rattle.text.specs.Bytes.{is, count}
 use Rattle.text.specs.Lines.{LF}
 use Rattle.text.specs.Pattern.{isAt}
 use Rattle.text.specs.declared.pattern.Found.{Found}
 use Rattle.text.specs.declared.pattern.Found.the-variants.{At, Nothing}
-use Rattle.index.specs.Index.{Record, File, fileOf, filesFrom as recordFiles, records, files, findRecord}
-use Rattle.index.specs.Rows.{rowAt, recordsIn}
+use Rattle.index.specs.Index.{Record, File, filesFrom as recordFiles, records, files, findRecord}
+use Rattle.index.specs.Rows.{rowAt}
 use Rattle.index.proofs.RowsLaws.{files-length}
 use Rattle.fileset.specs.Members.{names, absentFrom, recordFound, membersFrom, members}
 use Rattle.fileset.specs.Check.{bookChecked, Passes, Listed}

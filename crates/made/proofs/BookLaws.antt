@@ -10,7 +10,7 @@ use Rattle.chains.specs.Chains.{Chain, fileAt, startAt}
 use Rattle.assembled.specs.Assemble.{assemble}
 use Rattle.book.specs.Book.{membersOf, withTexts}
 use Rattle.book.specs.BookWalk.{walkAll, book}
-use Rattle.made.specs.Made.{bookOf, judgedAll, textsOf, AreMade}
+use Rattle.made.specs.Made.{bookOf, judgedAll, AreMade}
 
 module _ (B L : ℕ) (S hs : List File) (url : List ℕ) where
   pub book-made : {fs : List File} {n : ℕ} → AreMade B L S hs fs n → judge B L 0 (bookOf S hs url) ≡ judge B L n (assemble url fs)

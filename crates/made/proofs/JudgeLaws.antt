@@ -5,7 +5,7 @@ use mathlib.Core.Path.{_≡_, refl, sym, _∙_, ap}
 use mathlib.Core.List.{List, [], _∷_, _++_, append-assoc}
 use Rattle.answer.specs.declared.Refusal.{Refusal}
 use Rattle.walk.specs.Steps.{done, go, Judged, given, refused, judge}
-use Rattle.walk.specs.Outcome.{Outcome, text, noRegion, refusal}
+use Rattle.walk.specs.Outcome.{text, refusal}
 use Rattle.walk.proofs.StepsLaws.{judgeThen, judge-go}
 use Rattle.chains.specs.Chains.{Chain}
 use Rattle.chains.specs.Fill.{walk, filled}

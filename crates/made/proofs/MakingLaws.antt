@@ -4,7 +4,7 @@ use native.Mathlib.Nat.{sub-zero, suc-mul, add-mul, mul-le-mul-right}
 use native.Mathlib.Numerals.{add-one}
 use native.Mathlib.Omega.{arith}
 use mathlib.Core.Path.{_≡_, refl, sym, _∙_, ap}
-use mathlib.Core.Bool.{Bool, true, false, cond}
+use mathlib.Core.Bool.{Bool, true, false}
 use mathlib.Core.List.{List, [], _∷_, _++_, map, map-append, append-nil}
 use lib.Dec.{eqb}
 use lib.ListN.{length, take, drop}
@@ -13,16 +13,15 @@ use borrow.Author.Tests.{eqb-true, eqb-false}
 use Rattle.answer.specs.declared.Refusal.{Refusal}
 use Rattle.text.specs.Bytes.{part}
 use Rattle.index.specs.Index.{File, fileOf}
-use Rattle.walk.specs.Steps.{Judged, given, refused, judge}
+use Rattle.walk.specs.Steps.{given, refused, judge}
 use Rattle.walk.specs.Outcome.{Outcome, text, noRegion, refusal}
 use Rattle.chains.specs.Chains.{noMarks, startAt}
 use Rattle.chains.specs.Fill.{walk, filled}
 use Rattle.chains.proofs.FillLaws.{filled-plain}
 use Rattle.put.specs.Put.{sourceText, Inside}
-use Rattle.put.specs.declared.Source.{Source}
 use Rattle.members.specs.Members.{memberAt, numbersOf, nameOf, fileIn, filesFrom, Lies, AllLie}
 use Rattle.members.specs.declared.Member.{Member}
-use Rattle.members.proofs.MembersLaws.{put-length, member-put-same, member-put-other, files-more, files-at, files-end, files-up, files-set, source-up, inside-more, SameFile}
+use Rattle.members.proofs.MembersLaws.{put-length, member-put-same, member-put-other, files-more, files-at, files-end, files-up, files-set, source-up, inside-more}
 use Rattle.book.specs.Book.{withTexts}
 use Rattle.book.specs.BookWalk.{walkAll}
 use Rattle.made.specs.Made.{slot, placedAt, CanFill, CanMake, judgedAll, textsOf, AreMade}

@@ -1,7 +1,7 @@
 -- One member that stands in the contents, filled in its slot. Assumes nothing.
-use Prim.Native.Nat.{ℕ, suc, _+_, _-_, _*_, _≤_}
+use Prim.Native.Nat.{ℕ, suc, _-_, _*_, _≤_}
 use native.Mathlib.Omega.{arith}
-use mathlib.Core.Path.{_≡_, refl, sym, _∙_, ap}
+use mathlib.Core.Path.{_≡_, ap}
 use mathlib.Core.Bool.{false}
 use mathlib.Core.List.{List, _++_}
 use lib.ListN.{length, take, drop}
@@ -10,7 +10,7 @@ use Rattle.index.specs.Index.{File, fileOf}
 use Rattle.walk.specs.Outcome.{Outcome}
 use Rattle.chains.specs.Chains.{free, noMarks, chain, startAt}
 use Rattle.chains.specs.Fill.{filled}
-use Rattle.filling.specs.Filling.{readFilled, Ready, FilledWithin}
+use Rattle.filling.specs.Filling.{readFilled}
 use Rattle.filling.specs.declared.Filled.{Filled}
 use Rattle.filling.proofs.RoomLaws.{free-none, lent-length, back-take, back-drop}
 use Rattle.put.specs.Put.{Inside}

@@ -1,6 +1,6 @@
 // The members of a book: each filled in its slot of the work buffer, or kept as it stands in the contents.
 ghost use mathlib.Core.Path.{_≡_};
-ghost use Prim.Native.Nat.{_+_, _≤_};
+ghost use Prim.Native.Nat.{_+_};
 ghost use lib.ListN.{length, take, drop};
 ghost use Rattle.chains.specs.Chains.{startAt};
 ghost use Rattle.chains.specs.Fill.{filled};

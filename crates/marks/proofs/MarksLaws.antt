@@ -10,7 +10,7 @@ use lib.Dec.{eqb}
 use lib.ListN.{length, getD, set, length-set}
 use lib.Seq.{getD-set-same, getD-set-other}
 use borrow.Author.Tests.{eqb-true, eqb-false}
-use Rattle.marks.specs.Marks.{MANY, markOf, printOf, Holds, HasOther, placeOne, placeTwo, placeThree, Marked, Mark, Marks}
+use Rattle.marks.specs.Marks.{MANY, markOf, printOf, Holds, HasOther, placeOne, placeTwo, placeThree, Mark, Marks}
 
 module _ (t : List ℕ) (at mine : ℕ) (h : at < length t) where
   -- a place once x stands there, which is the mark or MANY, and so for those of which the place told

@@ -10,7 +10,7 @@ use Rattle.text.specs.Space.{isBlank}
 use Rattle.text.specs.Lines.{pieces}
 use Rattle.fence.specs.declared.Fence.{Fence}
 use Rattle.heading.specs.Level.{shallowestOf, deepestOf}
-use Rattle.heading.specs.Walk.{stepKind, stepAfter, stillKind, walkBegin}
+use Rattle.heading.specs.Walk.{stepKind, stepAfter, walkBegin}
 use Rattle.heading.specs.declared.level.TopLevel.the-variants.{NoHeading}
 use Rattle.heading.specs.declared.walk.LineKind.the-variants.{Heading}
 use Rattle.heading.specs.declared.walk.WalkState.{WalkState}

@@ -31,7 +31,6 @@ use Rattle.member.specs.Passed.{PassedLines, PassedTo}
 use Rattle.member.specs.Seen.{titledBy, movedKind, titleAt, Placed, SeenWith, endedAt}
 use Rattle.member.specs.declared.lines.LineCursor.{LineCursor}
 use Rattle.member.specs.declared.outline.Extent.{Extent}
-use Rattle.member.specs.declared.outline.Outline.{Outline}
 use Rattle.member.specs.declared.outline.Seen.{Seen}
 use Rattle.member.proofs.LinesLaws.{lines-on, lines-off}
 use Rattle.member.proofs.HeadingLaws.{line-next, heading-in}

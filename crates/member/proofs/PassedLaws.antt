@@ -2,8 +2,8 @@
 use Prim.Native.Nat.{ℕ, zero, suc, _+_, _-_, _≤_, _<_}
 use native.Mathlib.Nat.{add-zero}
 use native.Mathlib.Omega.{arith}
-use mathlib.Core.Path.{_≡_, refl, sym, ap, _∙_, subst}
-use mathlib.Core.Bool.{Bool, true, false, cond, _&&_, _||_}
+use mathlib.Core.Path.{_≡_, refl, sym, ap, _∙_}
+use mathlib.Core.Bool.{Bool, true, false, cond}
 use mathlib.Core.List.{List, [], _∷_}
 use lib.Dec.{ltb, eqb}
 use lib.ListN.{length, drop, getD}
@@ -12,7 +12,7 @@ use borrow.Author.Tests.{lt-ltb, le-ltb}
 use Rattle.text.specs.Bytes.{part, is, any, first}
 use Rattle.text.specs.First.{isFirst, begins}
 use Rattle.text.specs.Lines.{LF}
-use Rattle.text.specs.Pattern.{bytes, startsWith}
+use Rattle.text.specs.Pattern.{startsWith}
 use Rattle.text.specs.Space.{isBlank}
 use Rattle.text.proofs.BytesLaws.{or-left, or-right, first-hit, part-full}
 use Rattle.text.proofs.FirstLaws.{blank-trimmed, begins-trimmed, begins-starts}

@@ -4,7 +4,7 @@ use native.Mathlib.Nat.{sub-zero}
 use native.Mathlib.Omega.{arith}
 use mathlib.Core.Path.{_≡_, sym, _∙_, ap}
 use mathlib.Core.List.{List, [], _∷_, _++_}
-use lib.ListN.{length, take, drop, length-append, length-take, length-drop, take-append-drop}
+use lib.ListN.{length, take, drop, length-append, length-drop, take-append-drop}
 use lib.Seq.{drop-drop, take-at, drop-at}
 use Rattle.text.specs.Bytes.{part, is, first}
 use Rattle.text.specs.Lines.{LF, pieces, led}
@@ -12,7 +12,7 @@ use Rattle.text.specs.Split.{join}
 use Rattle.text.proofs.BytesLaws.{first-le}
 use Rattle.text.proofs.SplitLaws.{split-some}
 use Rattle.text.proofs.LedLaws.{led-append, text-more, join-split, led-pieces, led-rest}
-use Rattle.regions.proofs.PlaceLaws.{Starts, starts-within}
+use Rattle.regions.proofs.PlaceLaws.{Starts}
 
 -- a text in two
 text-two : (k : ℕ) (s : List ℕ) → 0 < k → s ≡ join LF (take k (pieces s)) ++ led (drop k (pieces s))

@@ -29,7 +29,7 @@ use Rattle.heading.specs.declared.walk.WalkState.{WalkState}
 use Rattle.heading.proofs.LevelLaws.{level-lines}
 use Rattle.heading.proofs.StillLaws.{kinds-append, states-append, shallowest-append, blanks-state}
 use Rattle.index.specs.Index.{fileOf}
-use Rattle.regions.specs.Regions.{blankedFrom, lastLevel, above, ownKinds, targetLevel, peerFaults, regionsFrom, hostRegions, region}
+use Rattle.regions.specs.Regions.{blankedFrom, lastLevel, above, ownKinds, targetLevel, peerFaults, regionsFrom, region}
 use Rattle.regions.specs.Hosts.{startCursor, cursorOf, hostRest, Append, blankedAt, topOf, CloserAt, HostAt, regionAt, WholeHost, LastHost}
 use Rattle.regions.specs.Own.{ownAfter, linesBefore, cursorBehind, OwnBefore, isHeadless, IsTop, CanTop, opensAt, cursorAt}
 use Rattle.regions.specs.declared.own.Own.{Own}

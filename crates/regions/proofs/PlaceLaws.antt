@@ -19,7 +19,7 @@ use Rattle.text.proofs.SplitLaws.{split-step, split-some}
 use Rattle.text.proofs.LineLaws.{lines-at, line-next, line-last, line-within}
 use Rattle.fence.specs.Fences.{isFence}
 use Rattle.marker.specs.Marker.{OPEN, SPEC-END, CLOSE, OPEN-FRAGMENT, pathOf, namedOf, restOf, aloneOf, fragmentOf, fragmentKind, markedKind, kindOf}
-use Rattle.scan.specs.Scan.{isOpen, closedBy, eventsOf, after, kindAt, begin, scanFrom, scan, regionsOf}
+use Rattle.scan.specs.Scan.{isOpen, closedBy, eventsOf, after, kindAt, begin, scanFrom, regionsOf}
 use Rattle.scan.specs.declared.event.Region.{Region}
 use Rattle.marker.specs.declared.line.Fragment.{Fragment}
 use Rattle.marker.specs.declared.line.Fragment.the-variants.{Path, Other}

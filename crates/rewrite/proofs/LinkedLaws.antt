@@ -1,14 +1,12 @@
 -- Laws of a source whose links are rewritten, put piece after piece. Assumes nothing.
-use Prim.Native.Nat.{ℕ, zero, suc, _+_, _-_, _≤_, _<_}
+use Prim.Native.Nat.{ℕ, _+_, _-_, _≤_, _<_}
 use native.Mathlib.Omega.{arith}
 use mathlib.Core.Path.{_≡_, refl, sym, ap, subst, _∙_}
-use mathlib.Core.List.{List, [], _∷_, _++_}
+use mathlib.Core.List.{List, _++_}
 use mathlib.Core.Option.{Option}
 use lib.ListN.{length, drop, set}
 use Rattle.text.specs.Bytes.{part}
-use Rattle.text.specs.Lines.{LF}
 use Rattle.text.proofs.BytesLaws.{rest}
-use Rattle.heading.specs.Level.{headingLine}
 use Rattle.link.specs.Links.{relink, FoundLink}
 use Rattle.link.specs.Target.{rewriteTarget}
 use Rattle.link.specs.declared.links.NextLink.the-variants.{Link, NoLink}

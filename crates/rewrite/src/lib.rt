@@ -1,5 +1,5 @@
 // A line's links rewritten as it is put behind the text so far.
-ghost use Prim.Native.Nat.{_+_, _-_, _≤_};
+ghost use Prim.Native.Nat.{_-_};
 ghost use lib.ListN.{length};
 ghost use Rattle.link.specs.Links.{relink};
 ghost use Rattle.link.specs.Target.{rewriteTarget};

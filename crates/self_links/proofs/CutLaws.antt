@@ -3,12 +3,12 @@ use Prim.Native.Nat.{ℕ, _+_, _≤_, _<_}
 use native.Mathlib.Nat.{sub-self}
 use native.Mathlib.Omega.{arith}
 use mathlib.Core.Path.{_≡_, ap, _∙_}
-use mathlib.Core.List.{List, [], _∷_, _++_, append-assoc}
-use lib.ListN.{length, drop, length-append}
+use mathlib.Core.List.{List, _++_, append-assoc}
+use lib.ListN.{length, drop}
 use Rattle.text.specs.Bytes.{part}
 use Rattle.text.proofs.BytesLaws.{part-full}
 use Rattle.text.proofs.PartLaws.{part-join, part-rest, part-drop}
-use Rattle.link.specs.Links.{relink, FoundLink}
+use Rattle.link.specs.Links.{FoundLink}
 use Rattle.link.specs.Target.{anchorSelf}
 use Rattle.link.specs.declared.links.NextLink.the-variants.{Link, NoLink}
 use Rattle.self_links.specs.Cuts.{linkedText, FoundCut}

@@ -15,7 +15,7 @@ use Rattle.members.proofs.MembersLaws.{prepared-more, prepared-at, prepared-end
 use Rattle.shared.specs.Shared.{sharedIn, sharedFrom}
 use Rattle.shared.specs.Tells.{Tells, SharedOf}
 use Rattle.shared.specs.declared.Shared.{Shared}
-use Rattle.shared.specs.declared.Shared.the-variants.{Nowhere, At}
+use Rattle.shared.specs.declared.Shared.the-variants.{At}
 
 pub stand-first : {index set : List ℕ} {n limit stop count : ℕ} → AllStand index n limit stop set count → (k : ℕ) → k ≤ count → AllStand index n limit stop set k
 stand-first all k h = record { few = omega (arith, all .few); stand = λ i j. all .stand i (omega arith); same = λ i j a b. all .same i j (omega arith) (omega arith) }

@@ -1,5 +1,5 @@
 -- `anchor::stir_in` meets its contract. Assumes nothing.
-use mathlib.Core.Path.{sym, _∙_, ap, subst}
+use mathlib.Core.Path.{sym, _∙_}
 use borrow.Author.Tests.{not-true, not-false}
 use Rattle.anchor.proofs.AnchorLaws.{number-kept, number-space, number-other, number-hidden}
 use borrow.Author.Needs.{needs}

@@ -1,8 +1,6 @@
 -- `run` meets its contract: refused by the checks, or made. Assumes nothing.
 use native.Mathlib.Omega.{arith}
 use mathlib.Core.Path.{_≡_, refl, sym, _∙_}
-use mathlib.Core.List.{List}
-use Prim.Native.Nat.{ℕ}
 use Rattle.index.specs.Index.{records}
 use Rattle.fileset.specs.Check.{bookChecked, Passes, Listed}
 use Rattle.fileset.specs.declared.check.Checked.the-variants.{Passed}

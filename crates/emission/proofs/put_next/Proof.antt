@@ -2,7 +2,7 @@
 use Prim.Native.Nat.{ℕ}
 use mathlib.Core.List.{List}
 use lib.IntN.{ℤ}
-use mathlib.Core.Path.{_≡_, ap, _∙_}
+use mathlib.Core.Path.{ap, _∙_}
 use Rattle.text.specs.Bytes.{part}
 use Rattle.heading.proofs.LevelLaws.{shift-kept}
 use Rattle.link.specs.Target.{rewriteTarget}

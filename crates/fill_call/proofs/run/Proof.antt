@@ -1,5 +1,4 @@
 -- `run` meets its contract: refused by the checks, or filled. Assumes nothing.
-use native.Mathlib.Omega.{arith}
 use mathlib.Core.Path.{_≡_, sym, _∙_}
 use Rattle.fileset.specs.Check.{fillChecked, Passes}
 use Rattle.fileset.specs.declared.check.Checked.the-variants.{Passed}

@@ -1,7 +1,7 @@
 -- `copy_out` meets its contract: the text lies within both buffers. Assumes nothing.
 use native.Mathlib.Omega.{arith}
 use mathlib.Core.Path.{sym, _∙_}
-use lib.ListN.{length, take}
+use lib.ListN.{length}
 use lib.Seq.{length-take-le}
 use Rattle.answer.specs.declared.Answer.the-variants.{Accepted}
 use Rattle.give.specs.Given.{Fits}

@@ -1,7 +1,7 @@
 -- `marks::mark` meets its contract, by what stood at the place. Assumes nothing.
 use native.Mathlib.Omega.{arith}
-use mathlib.Core.Bool.{true, false, false≢true}
-use mathlib.Core.Path.{_≡_, sym, _∙_}
+use mathlib.Core.Bool.{true, false≢true}
+use mathlib.Core.Path.{sym, _∙_}
 use borrow.Author.Tests.{eqb-false}
 use Rattle.marks.proofs.MarksLaws.{mark-left, mark-free, mark-many}
 use borrow.Author.Needs.{needs}

@@ -3,9 +3,6 @@ use Prim.Native.Nat.{suc, _-_}
 use native.Mathlib.Omega.{arith}
 use borrow.Author.Needs.{needs}
 use lib.ListN.{length}
-use mathlib.Core.Bool.{false}
-use mathlib.Core.Path.{_≡_, refl}
-use borrow.Author.Tests.{not-false}
 use Rattle.member.proofs.PassedLaws.{Passing, passed-none, passing-none, passing-more}
 use Rattle.member.proofs.lines.pass.Statement.{statement}
 use Rattle.member.proofs.lines.pass.Tie as tie

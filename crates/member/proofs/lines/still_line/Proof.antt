@@ -1,7 +1,7 @@
 -- `member::lines::still_line` meets its contract. Assumes nothing.
 use native.Mathlib.Omega.{arith}
-use mathlib.Core.Bool.{true, false≢true}
-use mathlib.Core.Path.{_≡_, sym, _∙_}
+use mathlib.Core.Bool.{false≢true}
+use mathlib.Core.Path.{sym, _∙_}
 use borrow.Author.Needs.{needs}
 use Rattle.member.proofs.PassedLaws.{still-empty, still-other}
 use Rattle.member.proofs.lines.still_line.Statement.{statement}
