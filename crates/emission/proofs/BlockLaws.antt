@@ -17,7 +17,7 @@ use Rattle.fence.specs.declared.Fence.{Fence}
 use Rattle.fence.specs.declared.Fence.the-variants.{Outside, Ticks, Tildes}
 use Rattle.heading.specs.Walk.{stillKind}
 use Rattle.member.specs.Lines.{leftOf, CursorIn}
-use Rattle.member.specs.Seen.{titledBy}
+use Rattle.outline.specs.Seen.{titledBy}
 use Rattle.member.specs.Passed.{Unlinked, PassedLine, PassedLines, PassedTo}
 use Rattle.member.specs.declared.lines.LineCursor.{LineCursor}
 use Rattle.emission.specs.Emission.{breakBefore, blockText}

@@ -16,7 +16,7 @@ use Rattle.shift.specs.Shift.{shiftFor}
 use Rattle.shift.proofs.ShiftLaws.{past-none, past-some}
 use Rattle.member.specs.Member.{Prepared}
 use Rattle.member.specs.Lines.{keptLines}
-use Rattle.member.specs.Outline.{movedKinds}
+use Rattle.outline.specs.Outline.{movedKinds}
 use Rattle.emission.specs.Emit.{emit}
 use Rattle.emission.specs.Emission.{emittedLines}
 

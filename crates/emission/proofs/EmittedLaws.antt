@@ -33,7 +33,7 @@ use Rattle.text.proofs.PartLaws.{part-part}
 use Rattle.put.proofs.NewTextLaws.{heading-linked, TextIn, text-in}
 use Rattle.put.proofs.PutLaws.{Reached, roomAt}
 use Rattle.member.specs.Member.{movable}
-use Rattle.member.specs.Seen.{titledBy, movedKind}
+use Rattle.outline.specs.Seen.{titledBy, movedKind}
 use Rattle.emission.proofs.LineLaws.{level-over, level-put, text-able, text-put}
 use Rattle.emission.specs.Emission.{emittedLine, breakBefore, levelOf}
 

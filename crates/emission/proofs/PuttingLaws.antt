@@ -18,7 +18,7 @@ use Rattle.put.proofs.NewTextLaws.{kind-in}
 use Rattle.put.proofs.PutLaws.{Reached, roomAt, reached-start, reached-next, reached-over, reached-last, reached-end, source-length, source-same}
 use Rattle.member.specs.Lines.{leftOf, atFirst, CursorIn, IsLine}
 use Rattle.member.specs.Passed.{PassedTo}
-use Rattle.member.specs.Seen.{titledBy, movedKind}
+use Rattle.outline.specs.Seen.{titledBy, movedKind}
 use Rattle.member.specs.declared.lines.LineCursor.{LineCursor}
 use Rattle.member.proofs.LinesLaws.{lines-on}
 use Rattle.emission.specs.Emission.{emittedLine, emittedText, breakBefore, blockText}

@@ -13,7 +13,6 @@ ghost use Rattle.emission.specs.Emission.{emittedLine, emittedText, brea
 use heading::walk::LineKind;
 use member::lines::LineCursor;
 use member::lines::NextLine;
-use member::outline;
 use put::Put;
 use put::Room;
 use put::Source;

@@ -10,7 +10,7 @@ use Rattle.put.specs.Put.{sourceText, Wrote}
 use Rattle.put.specs.declared.Source.{Source}
 use Rattle.put.specs.declared.Put.{Put}
 use Rattle.put.specs.declared.Room.{Room}
-use Rattle.member.specs.Outline.{ShiftBelow}
+use Rattle.outline.specs.Outline.{ShiftBelow}
 use Rattle.shift.specs.declared.level.Shift.{Shift}
 use Rattle.shift.specs.declared.level.Shift.the-variants.{By, PastAt}
 use Rattle.members.specs.Members.{memberAt, textSource, preparedIn}

@@ -6,7 +6,7 @@ use mathlib.Core.List.{List}
 use lib.ListN.{length, drop}
 use Rattle.put.specs.Put.{sourceText, Able, Inside}
 use Rattle.put.proofs.PutLaws.{able-part, inside-any}
-use Rattle.member.specs.Outline.{IsOutline, movedKinds}
+use Rattle.outline.specs.Outline.{IsOutline, movedKinds}
 use Rattle.members.specs.Members.{memberAt, textSource, preparedIn, preparedFrom, Stands, AllKnown, fileIn}
 use Rattle.members.specs.declared.Member.{Member}
 use Rattle.members.proofs.MembersLaws.{source-on, prepared-same, prepared-on, text-part, prepares}

@@ -2,8 +2,7 @@
 ghost use lib.ListN.{length};
 ghost use Rattle.shift.specs.Levels.{AreLevels};
 ghost use Rattle.put.specs.Put.{sourceText, Inside};
-ghost use Rattle.member.specs.Outline.{movedKinds, ShiftBelow};
-use member::outline;
+ghost use Rattle.outline.specs.Outline.{movedKinds, ShiftBelow};
 use put::Source;
 use shift::level::Levels;
 use shift::level::Shift;

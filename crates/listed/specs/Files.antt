@@ -7,7 +7,7 @@ use lib.ListN.{length, getD}
 use Rattle.heading.specs.declared.level.TopLevel.the-variants.{NoHeading}
 use Rattle.index.specs.Rows.{rowAt}
 use Rattle.index.specs.declared.rows.Row.{Row}
-use Rattle.member.specs.declared.outline.Outline.{Outline}
+use Rattle.outline.specs.declared.Outline.{Outline}
 use Rattle.members.specs.Members.{memberAt}
 use Rattle.members.specs.declared.Member.{Member}
 

@@ -5,9 +5,9 @@ ghost use lib.ListN.{length};
 ghost use Rattle.listed.specs.Files.{noOutline, memberOf, AreListed, AreFiles};
 use heading::level::TopLevel;
 use index::rows::Row;
-use member::outline::Extent;
-use member::outline::Outline;
 use members::Member;
+use outline::Extent;
+use outline::Outline;
 use put::Source;
 use shift::level::Levels;
 

@@ -1,3 +1,2 @@
-// A member of an assembly: the lines it keeps, its title and its levels.
+// A member of an assembly: the lines it keeps.
 pub mod lines;
-pub mod outline;

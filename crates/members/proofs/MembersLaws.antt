@@ -25,7 +25,7 @@ use Rattle.put.specs.Put.{sourceText, Held, Inside, partOf}
 use Rattle.put.specs.declared.Source.{Source}
 use Rattle.put.proofs.PutLaws.{source-part}
 use Rattle.member.specs.Member.{Prepared, preparedLines, titleOf, titled, prepare}
-use Rattle.member.specs.Outline.{IsOutline}
+use Rattle.outline.specs.Outline.{IsOutline}
 use Rattle.members.specs.Members.{
   topNumber,
   topOf,

@@ -13,8 +13,8 @@ use Rattle.put.specs.Put.{sourceText, Inside, partOf}
 use Rattle.put.specs.declared.Source.{Source}
 use Rattle.member.specs.Member.{Prepared}
 use Rattle.member.specs.Lines.{keptLines}
-use Rattle.member.specs.Outline.{IsOutline}
-use Rattle.member.specs.declared.outline.Outline.{Outline}
+use Rattle.outline.specs.Outline.{IsOutline}
+use Rattle.outline.specs.declared.Outline.{Outline}
 use Rattle.members.specs.declared.Member.{Member}
 
 -- a level as a number, 0 for none

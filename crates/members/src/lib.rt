@@ -5,8 +5,8 @@ ghost use lib.Seq.{sets};
 ghost use Rattle.put.specs.Put.{partOf};
 ghost use Rattle.members.specs.Members.{topNumber, topOf as topIn, memberAt, numbersOf, textSource, titleSource};
 use heading::level::TopLevel;
-use member::outline::Extent;
-use member::outline::Outline;
+use outline::Extent;
+use outline::Outline;
 use put::Source;
 use shift::level::Levels;
 

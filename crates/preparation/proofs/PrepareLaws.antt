@@ -17,8 +17,8 @@ use Rattle.walk.specs.Steps.{done, failed, go}
 use Rattle.put.specs.Put.{sourceText, Inside}
 use Rattle.put.specs.declared.Source.{Source}
 use Rattle.member.specs.Member.{Prepared, preparedLines, titleOf, titled, prepare}
-use Rattle.member.specs.Outline.{IsOutline}
-use Rattle.member.specs.declared.outline.Outline.{Outline}
+use Rattle.outline.specs.Outline.{IsOutline}
+use Rattle.outline.specs.declared.Outline.{Outline}
 use Rattle.members.specs.Members.{memberAt, numbersOf, nameOf, fileIn, preparedIn, filesFrom, preparedFrom, Lies, AllLie, AllStand, AllKnown}
 use Rattle.members.specs.declared.Member.{Member}
 use Rattle.members.proofs.MembersLaws.{member-put-same, member-put-other, prepares, all-stand}

@@ -3,8 +3,8 @@ ghost use mathlib.Core.Path.{_≡_};
 ghost use lib.ListN.{length};
 ghost use Rattle.preparation.specs.Preparation.{CanPrepare, ReadyOf};
 use answer::Refusal;
-use member::outline::Outlined;
 use members::Member;
+use outline::Outlined;
 
 mod read;
 

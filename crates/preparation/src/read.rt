@@ -1,9 +1,8 @@
 // A member's text read where it lies: only this function looks there.
 ghost use lib.ListN.{length};
 ghost use Rattle.put.specs.Put.{sourceText, Inside};
-ghost use Rattle.member.specs.Outline.{FoundOutline};
-use member::outline;
-use member::outline::Outlined;
+ghost use Rattle.outline.specs.Outline.{FoundOutline};
+use outline::Outlined;
 use put::Source;
 
 // What is known of a member's text once it is prepared.

@@ -1,7 +1,7 @@
--- `member::outline::titled_by` meets its contract. Assumes nothing.
+-- `outline::titled_by` meets its contract. Assumes nothing.
 use borrow.Author.Needs.{needs}
-use Rattle.member.proofs.outline.titled_by.Statement.{statement}
-use Rattle.member.proofs.outline.titled_by.Tie as tie
+use Rattle.outline.proofs.titled_by.Statement.{statement}
+use Rattle.outline.proofs.titled_by.Tie as tie
 
 enum-told : tie.Need-enum-told
 enum-told c = search needs

@@ -1,9 +1,9 @@
--- `member::outline::title_at` meets its contract. Assumes nothing.
+-- `outline::title_at` meets its contract. Assumes nothing.
 use native.Mathlib.Omega.{arith}
 use borrow.Author.Tests.{eq-eqb, ne-eqb}
 use borrow.Author.Needs.{needs}
-use Rattle.member.proofs.outline.title_at.Statement.{statement}
-use Rattle.member.proofs.outline.title_at.Tie as tie
+use Rattle.outline.proofs.title_at.Statement.{statement}
+use Rattle.outline.proofs.title_at.Tie as tie
 
 enum-told : tie.Need-enum-told
 enum-told c = search needs

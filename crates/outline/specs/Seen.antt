@@ -6,8 +6,8 @@ use lib.Dec.{eqb}
 use Rattle.heading.specs.Level.{shallower, deeper}
 use Rattle.heading.specs.declared.walk.LineKind.{LineKind}
 use Rattle.heading.specs.declared.walk.LineKind.the-variants.{Quoted, Heading, Other}
-use Rattle.member.specs.declared.outline.Extent.{Extent}
-use Rattle.member.specs.declared.outline.Seen.{Seen}
+use Rattle.outline.specs.declared.Extent.{Extent}
+use Rattle.outline.specs.declared.Seen.{Seen}
 
 -- whether there is a title among the lines up to one of this kind: the first H1
 abbrev pub titledBy : Bool → LineKind → Bool

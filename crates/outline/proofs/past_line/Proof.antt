@@ -1,4 +1,4 @@
--- `member::outline::past_line` meets its contract. The invariant: a heading of the lines that are left goes past, the title excepted. Assumes nothing.
+-- `outline::past_line` meets its contract. The invariant: a heading of the lines that are left goes past, the title excepted. Assumes nothing.
 use Prim.Native.Nat.{suc, _-_}
 use native.Mathlib.Omega.{arith}
 use mathlib.Core.Path.{sym, _∙_}
@@ -7,10 +7,10 @@ use mir.Syntax.{w32}
 use mir.Val.{toZ}
 use borrow.Author.Needs.{needs}
 use Rattle.heading.proofs.LevelLaws.{shift-kept}
 use Rattle.member.proofs.HeadingLaws.{line-next}
-use Rattle.member.proofs.BelowLaws.{Below, below-first, below-some, below-level, below-here, below-line}
-use Rattle.member.proofs.outline.past_line.Statement.{statement}
-use Rattle.member.proofs.outline.past_line.Tie as tie
+use Rattle.outline.proofs.BelowLaws.{Below, below-first, below-some, below-level, below-here, below-line}
+use Rattle.outline.proofs.past_line.Statement.{statement}
+use Rattle.outline.proofs.past_line.Tie as tie
 
 abbrev Inv-loop : tie.InvT-loop
 Inv-loop s shift titled₀ c₀ titled c = Below (toZ w32 shift) s titled c

@@ -13,11 +13,11 @@ use Rattle.shift.specs.Shift.{kindsOf, shiftFor}
 use Rattle.shift.specs.Levels.{AreLevels}
 use Rattle.shift.specs.declared.level.Shift.{Shift}
 use Rattle.shift.specs.declared.level.Shift.the-variants.{By, PastAt}
 use Rattle.member.specs.Member.{preparedLines, titleOf, movable}
 use Rattle.member.specs.Lines.{keptLines}
-use Rattle.member.specs.declared.outline.Outline.{Outline}
-use Rattle.member.specs.declared.outline.Outlined.{Outlined}
-use Rattle.member.specs.declared.outline.Outlined.the-variants.{Titled, Untitled}
+use Rattle.outline.specs.declared.Outline.{Outline}
+use Rattle.outline.specs.declared.Outlined.{Outlined}
+use Rattle.outline.specs.declared.Outlined.the-variants.{Titled, Untitled}
 
 -- the prepared lines of s are the lines kept up to a place; where the title stands in s; the levels of the other headings
 pub record IsOutline (s : List ℕ) (o : Outline) : Type 0 where

@@ -1,8 +1,8 @@
--- `member::outline::moved_kind` meets its contract. Assumes nothing.
+-- `outline::moved_kind` meets its contract. Assumes nothing.
 use borrow.Author.Tests.{ne-eqb}
 use borrow.Author.Needs.{needs}
-use Rattle.member.proofs.outline.moved_kind.Statement.{statement}
-use Rattle.member.proofs.outline.moved_kind.Tie as tie
+use Rattle.outline.proofs.moved_kind.Statement.{statement}
+use Rattle.outline.proofs.moved_kind.Tie as tie
 
 enum-told : tie.Need-enum-told
 enum-told c = search needs

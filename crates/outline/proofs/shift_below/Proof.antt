@@ -1,10 +1,10 @@
--- `member::outline::shift_below` meets its contract: a heading goes past where the deepest does. Assumes nothing.
+-- `outline::shift_below` meets its contract: a heading goes past where the deepest does. Assumes nothing.
 use mathlib.Core.Path.{_∙_}
 use Rattle.heading.proofs.LevelLaws.{shift-kept}
-use Rattle.member.proofs.BelowLaws.{below-past, below-none, below-by, below-past-at}
+use Rattle.outline.proofs.BelowLaws.{below-past, below-none, below-by, below-past-at}
 use borrow.Author.Needs.{needs}
-use Rattle.member.proofs.outline.shift_below.Statement.{statement}
-use Rattle.member.proofs.outline.shift_below.Tie as tie
+use Rattle.outline.proofs.shift_below.Statement.{statement}
+use Rattle.outline.proofs.shift_below.Tie as tie
 
 shift-to-requires : tie.Need-shift-to-requires
 shift-to-requires c κs = search needs

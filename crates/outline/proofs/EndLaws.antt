@@ -17,10 +17,10 @@ use Rattle.heading.specs.declared.walk.WalkState.{WalkState}
 use Rattle.heading.proofs.StillLaws.{blank-kind}
 use Rattle.shift.specs.Shift.{Told, toldFrom, kindsOf, upTo}
 use Rattle.shift.proofs.ShiftLaws.{told-take}
 use Rattle.member.specs.Member.{withoutContents, preparedLines, titleOf, movable}
 use Rattle.member.specs.Lines.{keptLines, IsPlain, Plain}
 use Rattle.member.proofs.HeadingLaws.{still-plain}
-use Rattle.member.proofs.TitleLaws.{title-plain, shallowest-plain, deepest-plain}
+use Rattle.outline.proofs.TitleLaws.{title-plain, shallowest-plain, deepest-plain}
 
 -- a line more: where it is blank, and where it is not
 upTo-le : (ls : List (List ℕ)) → upTo ls ≤ length ls

@@ -1,7 +1,7 @@
--- `member::outline::end_with` meets its contract. Assumes nothing.
+-- `outline::end_with` meets its contract. Assumes nothing.
 use borrow.Author.Needs.{needs}
-use Rattle.member.proofs.outline.end_with.Statement.{statement}
-use Rattle.member.proofs.outline.end_with.Tie as tie
+use Rattle.outline.proofs.end_with.Statement.{statement}
+use Rattle.outline.proofs.end_with.Tie as tie
 
 is-blank-requires : tie.Need-is-blank-requires
 is-blank-requires c κs = search needs

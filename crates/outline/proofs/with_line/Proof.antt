@@ -1,8 +1,8 @@
--- `member::outline::with_line` meets its contract. Assumes nothing.
+-- `outline::with_line` meets its contract. Assumes nothing.
 use mathlib.Core.Path.{refl}
 use borrow.Author.Needs.{needs}
-use Rattle.member.proofs.outline.with_line.Statement.{statement}
-use Rattle.member.proofs.outline.with_line.Tie as tie
+use Rattle.outline.proofs.with_line.Statement.{statement}
+use Rattle.outline.proofs.with_line.Tie as tie
 
 title-at-requires : tie.Need-title-at-requires
 title-at-requires c κs = search needs

@@ -16,14 +16,14 @@ use Rattle.shift.specs.Levels.{HasLevel, AreLevels}
 use Rattle.shift.specs.Shift.{Told, kindsOf, shiftFor}
 use Rattle.shift.specs.declared.level.Shift.the-variants.{By, PastAt}
 use Rattle.shift.proofs.LevelsLaws.{step-level, Ahead, ahead-here, ahead-turn}
 use Rattle.member.specs.Member.{movable}
 use Rattle.member.specs.Lines.{leftOf, atFirst, CursorIn, IsLine}
-use Rattle.member.specs.Outline.{movedKinds, ShiftBelow}
-use Rattle.member.specs.Seen.{titledBy, movedKind}
+use Rattle.outline.specs.Outline.{movedKinds, ShiftBelow}
+use Rattle.outline.specs.Seen.{titledBy, movedKind}
 use Rattle.member.specs.declared.lines.LineCursor.{LineCursor}
 use Rattle.member.proofs.HeadingLaws.{line-next}
-use Rattle.member.proofs.TitleLaws.{movedFrom, moved-turn, moved-level}
-use Rattle.member.proofs.OutlineLaws.{kept-first}
+use Rattle.outline.proofs.TitleLaws.{movedFrom, moved-turn, moved-level}
+use Rattle.outline.proofs.OutlineLaws.{kept-first}
 
 -- a line that goes past is left, with a title before or not
 pub record Below (z : ℤ) (s : List ℕ) (t : Bool) (c : LineCursor) : Type 0 where

@@ -14,9 +14,9 @@ use Rattle.heading.specs.declared.walk.LineKind.{LineKind}
 use Rattle.heading.specs.declared.walk.LineKind.the-variants.{Quoted, Heading, Other}
 use Rattle.shift.specs.Shift.{Told, kindsOf}
 use Rattle.shift.specs.Levels.{HasLevel}
 use Rattle.member.specs.Member.{titleIn, titleOf, movable}
 use Rattle.member.specs.Lines.{IsPlain, Plain}
-use Rattle.member.specs.Seen.{titledBy, movedKind}
+use Rattle.outline.specs.Seen.{titledBy, movedKind}
 
 -- what moves of lines, with a title before them or not
 abbrev pub movedFrom : Bool → List Told → List Told

@@ -1,12 +1,12 @@
--- `member::outline::prepare` meets its contract. The invariant: `Outlines`, what is seen of the lines before the cursor. Assumes nothing.
+-- `outline::prepare` meets its contract. The invariant: `Outlines`, what is seen of the lines before the cursor. Assumes nothing.
 use Prim.Native.Nat.{suc, _-_}
 use native.Mathlib.Omega.{arith}
 use borrow.Author.Needs.{needs}
 use lib.ListN.{length}
 use Rattle.member.proofs.HeadingLaws.{passed-none, passed-still, line-next}
-use Rattle.member.proofs.OutlineLaws.{Outlines, outlines-none, outlines-still, outlines-line, outlines-titled, outlines-untitled, line-placed}
-use Rattle.member.proofs.outline.prepare.Statement.{statement}
-use Rattle.member.proofs.outline.prepare.Tie as tie
+use Rattle.outline.proofs.OutlineLaws.{Outlines, outlines-none, outlines-still, outlines-line, outlines-titled, outlines-untitled, line-placed}
+use Rattle.outline.proofs.prepare.Statement.{statement}
+use Rattle.outline.proofs.prepare.Tie as tie
 
 abbrev Inv-loop : tie.InvT-loop
 Inv-loop s seen₀ c₀ seen c = Outlines s c seen

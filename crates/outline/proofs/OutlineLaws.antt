@@ -24,18 +24,18 @@ use Rattle.shift.specs.Shift.{Told, toldFrom, kindsOf}
 use Rattle.shift.proofs.LevelsLaws.{step-level, Found, found-turn}
 use Rattle.text.proofs.BytesLaws.{part-full}
 use Rattle.text.proofs.PartLaws.{part-part}
 use Rattle.member.specs.Member.{withoutContents, preparedLines, titleOf, movable}
 use Rattle.member.specs.Lines.{keptLines, leftOf, atFirst, CursorIn, IsLine}
-use Rattle.member.specs.Outline.{IsOutline, movedKinds}
+use Rattle.outline.specs.Outline.{IsOutline, movedKinds}
 use Rattle.member.specs.Passed.{PassedLines, PassedTo}
-use Rattle.member.specs.Seen.{titledBy, movedKind, titleAt, Placed, SeenWith, endedAt}
+use Rattle.outline.specs.Seen.{titledBy, movedKind, titleAt, Placed, SeenWith, endedAt}
 use Rattle.member.specs.declared.lines.LineCursor.{LineCursor}
-use Rattle.member.specs.declared.outline.Extent.{Extent}
-use Rattle.member.specs.declared.outline.Seen.{Seen}
+use Rattle.outline.specs.declared.Extent.{Extent}
+use Rattle.outline.specs.declared.Seen.{Seen}
 use Rattle.member.proofs.LinesLaws.{lines-on, lines-off}
 use Rattle.member.proofs.HeadingLaws.{line-next, heading-in}
-use Rattle.member.proofs.TitleLaws.{movedFrom, moved-turn, moved-level, level-shallower, level-deeper, title-turn}
-use Rattle.member.proofs.EndLaws.{trimmed, trimmed-blank, trimmed-last, heading-shown, prepared-trimmed, prepared-title, prepared-shallowest, prepared-deepest}
+use Rattle.outline.proofs.TitleLaws.{movedFrom, moved-turn, moved-level, level-shallower, level-deeper, title-turn}
+use Rattle.outline.proofs.EndLaws.{trimmed, trimmed-blank, trimmed-last, heading-shown, prepared-trimmed, prepared-title, prepared-shallowest, prepared-deepest}
 
 -- no line is left behind the last
 left-off : (c : LineCursor) (s : List ℕ) → length s < c .at → leftOf c s ≡ []
