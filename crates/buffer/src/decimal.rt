@@ -36,7 +36,7 @@ pub fn put_before(out: &mut [u8], e: usize, n: usize) -> usize
 
 // The number that decimal digits make, if s has no other byte.
 pub fn parse(s: &[u8]) -> Number
-    requires { ⌜ length (now s) ≤ 9 ⌝ }
+    requires { ⌜ length (now s) ≤ 10 ⌝ }
     ensures { λ r. ⌜ r ≡ numberOf (now (s .entry)) ⌝ }
 {
     let mut n: usize = 0;

@@ -64,7 +64,7 @@ abbrev InFragment : ℕ → ℕ → Fragment → Type 0
 InFragment lo hi (Path a e peer) = (lo ≤ a) × ((a < e) × (e ≤ hi))
 InFragment lo hi Other = Unit {0}
 
-abbrev InKind : ℕ → ℕ → Kind → Type 0
+abbrev pub InKind : ℕ → ℕ → Kind → Type 0
 InKind lo hi Plain = Unit {0}
 InKind lo hi Fence = Unit {0}
 InKind lo hi (Fault k) = Unit {0}
@@ -125,7 +125,7 @@ in-fragment o l =
     (λ z. omega (arith, length-take (kept d) d, length-drop (lead l) l))
     (in-alone (o + lead l) (trim l))
 
-kind-path : (fence inside : Bool) (o : ℕ) (l : List ℕ) (hi : ℕ) → o + length l ≤ hi → InKind (o + 14) hi (kindOf fence inside o l)
+pub kind-path : (fence inside : Bool) (o : ℕ) (l : List ℕ) (hi : ℕ) → o + length l ≤ hi → InKind (o + 14) hi (kindOf fence inside o l)
 unfolding kindOf markedKind fragmentKind
 kind-path fence inside o l hi h = by (isFence l) (find OPEN l)
   where

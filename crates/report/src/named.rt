@@ -1,0 +1,36 @@
+// The file that a line of a note or of the list names.
+ghost use Prim.Native.Nat.{_≤_};
+use libc::STDERR_FILENO;
+use station::line;
+
+// The path of a region's opener.
+fn say_path(opener: &[u8]) {
+    let p = line::named_on(opener);
+    let start = p.start;
+    let end = p.end;
+    io::write_all(STDERR_FILENO, &opener[start..end]);
+}
+
+// The path of the region that opens on a line of a note, or the name on a line of the list.
+fn say_named_on(text: &[u8], number: usize) {
+    let l = line::line_at(text, number);
+    let start = l.start;
+    let end = l.end;
+    say_path(&text[start..end]);
+}
+
+// The file that is named at a place: by a note's region, or by the list. Where each note starts in the contents and the one before it ends.
+pub fn say_named(file: usize, line: usize, starts: &[usize; 65], contents: &[u8], list: &[u8]) {
+    if file == 0 {
+        say_named_on(list, line);
+        return;
+    }
+    if 64 < file {
+        return;
+    }
+    let start = starts[file - 1];
+    let end = starts[file];
+    if start <= end && end <= contents.len() {
+        say_named_on(&contents[start..end], line);
+    }
+}
