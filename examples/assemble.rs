@@ -2,87 +2,36 @@
 
 use std::io::Write;
 
-#[rustfmt::skip]
-#[link(name = "jilgyemot", kind = "static")]
-unsafe extern "C" {
-    fn jilgyemot_assemble(
-        index: *const u8, index_length: usize,
-        contents: *const u8, contents_length: usize,
-        list: *const u8, list_length: usize,
-        url: *const u8, url_length: usize,
-        limit: u64,
-        out: *mut u8, out_length: usize,
-        work: *mut u8, work_length: usize,
-        answer: *mut u64,
-    );
-}
+use jilgyemot::{FileSet, Members, assemble, work_size};
 
-/// A file's name and text.
-type File<'a> = (&'a str, &'a str);
+/// The assembled text has no more bytes.
+const LIMIT: usize = 256;
 
-/// A file's number, counted from 1, and a line in it.
-type Place = (u64, u64);
+/// Names and texts.
+const NOTES: [(&str, &str); 3] = [
+    ("docs/gauge.md", "# Gauge\n\n# Datum\n\nRead it with [the pump](pump.md).\n"),
+    ("docs/pump.md", "# Pump\n\nBy [the rules](../rules.md#pumps), at 6 m.\n"),
+    ("docs/old.md", "# Old gauge\n\n# Datum"),
+];
 
-/// What becomes of a list.
-enum Assembled {
-    Text(Vec<u8>),
-    /// The number and both places.
-    Refused(u64, Place, Place),
-}
-
-/// Assembles the files whose names are listed. No text has more than `limit` bytes.
-fn assemble(files: &[File], names: &[&str], url: &str, limit: usize) -> Assembled {
+fn main() {
     let (mut index, mut contents) = (String::new(), String::new());
-    for (name, text) in files {
+    for (name, text) in NOTES {
         index += &format!("{name}\t{}\t{}\n", contents.len(), text.len());
         contents += text;
     }
-    let list: String = names.iter().map(|name| format!("{name}\n")).collect();
-    let mut out = vec![0; limit];
-    let mut work = vec![0; (files.len() + names.len() + 2) * limit];
-    let mut answer = [0; 6];
-    // The slices give valid pointers and lengths, and do not overlap.
-    unsafe {
-        jilgyemot_assemble(
-            index.as_ptr(),
-            index.len(),
-            contents.as_ptr(),
-            contents.len(),
-            list.as_ptr(),
-            list.len(),
-            url.as_ptr(),
-            url.len(),
-            limit as u64,
-            out.as_mut_ptr(),
-            out.len(),
-            work.as_mut_ptr(),
-            work.len(),
-            answer.as_mut_ptr(),
-        );
-    }
-    match answer {
-        [0, length, ..] => {
-            out.truncate(length as usize);
-            Assembled::Text(out)
-        }
-        [_, number, file, line, second_file, second_line] => {
-            Assembled::Refused(number, (file, line), (second_file, second_line))
-        }
-    }
-}
-
-fn main() {
-    let gauge = ("docs/gauge.md", "# Gauge\n\n# Datum\n\nRead it with [the pump](pump.md).\n");
-    let pump = ("docs/pump.md", "# Pump\n\nBy [the rules](../rules.md#pumps), at 6 m.\n");
-    let old = ("docs/old.md", "# Old gauge\n\n# Datum");
-    for names in [["docs/gauge.md", "docs/pump.md"], ["docs/gauge.md", "docs/old.md"]] {
-        match assemble(&[gauge, pump, old], &names, "https://river.example/notes", 256) {
-            Assembled::Text(text) => std::io::stdout().write_all(&text).expect("standard output"),
-            Assembled::Refused(number, (file, line), (second_file, second_line)) => {
-                println!(
-                    "refused {number}, file {file}, line {line}; \
-                     file {second_file}, line {second_line}"
-                );
+    let files = FileSet { index: index.as_bytes(), contents: contents.as_bytes() };
+    let mut out = [0; LIMIT];
+    let mut work = [0; work_size(NOTES.len(), 2, LIMIT)];
+    for list in ["docs/gauge.md\ndocs/pump.md\n", "docs/gauge.md\ndocs/old.md\n"] {
+        let members = Members { list: list.as_bytes(), url: b"https://river.example/notes" };
+        match assemble(files, members, LIMIT, &mut out, &mut work).text() {
+            Ok(text) => {
+                std::io::stdout().write_all(text.unwrap_or_default()).expect("standard output");
+            }
+            Err(refusal) => {
+                let (number, place, second) = (refusal.number(), refusal.place(), refusal.second());
+                println!("refused {number}, {place}; {second}");
             }
         }
     }

@@ -1,5 +1,6 @@
 //! The six numbers that a call answers with.
 
+use std::hint::black_box;
 use std::sync::Once;
 
 /// Accepted: `0, length, files taken in, 0, 0, 0`.
@@ -23,17 +24,24 @@ const UNWRITTEN: u64 = u64::MAX;
 const GUARD: u64 = 0xA5A5_A5A5_A5A5_A5A5;
 const GUARDS: usize = 4;
 
-/// What a call writes as its answer; the pointer has room for six numbers. For a
-/// call that writes before or behind them it is six guards, which no call
-/// answers, so every comparison fails.
-pub fn answered(call: impl FnOnce(*mut u64)) -> Answer {
-    let mut lent = [GUARD; GUARDS + 6 + GUARDS];
-    lent[GUARDS..][..6].fill(UNWRITTEN);
-    call(lent.as_mut_ptr().wrapping_add(GUARDS));
-    let answer = std::array::from_fn(|number| lent[GUARDS + number]);
-    let around = lent[..GUARDS].iter().chain(&lent[GUARDS + 6..]);
-    if around.copied().all(|word| word == GUARD) {
-        return answer;
+/// Six numbers lent to a call, with guards around them.
+#[repr(C)]
+struct Lent {
+    before: [u64; GUARDS],
+    answer: Answer,
+    behind: [u64; GUARDS],
+}
+
+/// What a call writes as its answer. For a call that writes before or behind the six
+/// numbers it is six guards, which no call answers, so every comparison fails.
+pub fn answered(call: impl FnOnce(&mut Answer)) -> Answer {
+    let guards = [GUARD; GUARDS];
+    let mut lent = Lent { before: guards, answer: [UNWRITTEN; 6], behind: guards };
+    call(&mut lent.answer);
+    // No guard was lent, so the compiler might take them for unchanged without reading.
+    let lent = black_box(&mut lent);
+    if lent.before == guards && lent.behind == guards {
+        return lent.answer;
     }
     static SAID: Once = Once::new();
     SAID.call_once(|| eprintln!("a call wrote before or behind its six numbers"));

@@ -10,10 +10,9 @@ use jilgyemot_host::booking::examples::examples;
 use jilgyemot_host::booking::oracle::{REFUSALS, expected};
 use jilgyemot_host::booking::sets::Sets;
 use jilgyemot_host::comparison::{Options, report};
-use jilgyemot_host::pointers::answer_with_allowance;
 use jilgyemot_host::walking::comparing::{Answers, Call, Comparison};
 use jilgyemot_host::walking::null::{OrNull, compare_null};
-use library_book::{book, jilgyemot_book};
+use library_book::{book, book_or_null};
 
 /// From so many cases on, every answer must have been seen.
 const MANY: u64 = 1_000_000;
@@ -31,8 +30,7 @@ fn is_complete(answers: &Answers) -> bool {
 
 /// Index, contents, list and buffers that are there or are null.
 fn compare_nulls() -> Result<u64, String> {
-    let call: OrNull =
-        |given, out, work| answer_with_allowance(jilgyemot_book, given, 1, 0, out, work);
+    let call: OrNull = |given, out, work| book_or_null(given, 1, 0, out, work);
     compare_null(call, 3, ([0, 1, 0, 0, 0, 0], [b'\n', 0xA5]))
 }
 

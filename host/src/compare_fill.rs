@@ -10,11 +10,10 @@ use jilgyemot_host::filling::examples::{CHECKS, examples, of_file};
 use jilgyemot_host::filling::oracle::expected;
 use jilgyemot_host::filling::sets::Sets;
 use jilgyemot_host::filling::shorter::shorter;
-use jilgyemot_host::pointers::answer_with_allowance;
 use jilgyemot_host::walking::comparing::{Answers, Call, Comparison};
 use jilgyemot_host::walking::limits::Limits;
 use jilgyemot_host::walking::null::{OrNull, compare_null};
-use library_fill::{fill, jilgyemot_fill};
+use library_fill::{fill, fill_or_null};
 
 /// From so many cases on, every answer must have been seen.
 const MANY: u64 = 1_000_000;
@@ -51,8 +50,7 @@ fn compare_examples(comparison: &mut Comparison<Case>) -> Result<u64, String> {
 
 /// Index, contents, host's text and buffers that are there or are null.
 fn compare_nulls() -> Result<u64, String> {
-    let call: OrNull =
-        |given, out, work| answer_with_allowance(jilgyemot_fill, given, 1, 0, out, work);
+    let call: OrNull = |given, out, work| fill_or_null(given, 1, 0, out, work);
     compare_null(call, 2, ([1, 0, 0, 0, 0, 0], [0xA5; 2]))
 }
 

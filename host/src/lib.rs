@@ -15,7 +15,6 @@ pub mod linked;
 pub mod notes;
 pub mod oracle;
 pub mod outline;
-pub mod pointers;
 pub mod random;
 pub mod refusals;
 pub mod regions;

@@ -12,22 +12,15 @@ mod stack_set;
 use std::arch::naked_asm;
 use std::hint::black_box;
 
+use jilgyemot::c::{jilgyemot_assemble, jilgyemot_book, jilgyemot_fill, jilgyemot_scan};
 use notes::{long_line, marker_in_each_line, notes};
 use random::Random;
 use stack_assembly::assemblies;
 use stack_book::books;
 use stack_fill::fills;
 
-// Only the addresses are taken here; `painted_call` passes the arguments.
-#[link(name = "jilgyemot", kind = "static")]
-unsafe extern "C" {
-    fn jilgyemot_scan();
-    fn jilgyemot_fill();
-    fn jilgyemot_assemble();
-    fn jilgyemot_book();
-}
-
-type Address = unsafe extern "C" fn();
+/// Where a C function lies; `painted_call` passes the arguments.
+type Address = *const ();
 
 /// A call of the library, the bytes of stack that it may take at most, and what
 /// it is measured on.
@@ -40,15 +33,15 @@ struct Call {
 
 /// A row for each call of the library.
 const CALLS: [Call; 4] = [
-    Call { name: "jilgyemot_scan", address: jilgyemot_scan, bound: 20_480, inputs: scans },
-    Call { name: "jilgyemot_fill", address: jilgyemot_fill, bound: 131_072, inputs: fills },
+    Call { name: "jilgyemot_scan", address: jilgyemot_scan as _, bound: 20_480, inputs: scans },
+    Call { name: "jilgyemot_fill", address: jilgyemot_fill as _, bound: 131_072, inputs: fills },
     Call {
         name: "jilgyemot_assemble",
-        address: jilgyemot_assemble,
+        address: jilgyemot_assemble as _,
         bound: 24_576,
         inputs: assemblies,
     },
-    Call { name: "jilgyemot_book", address: jilgyemot_book, bound: 131_072, inputs: books },
+    Call { name: "jilgyemot_book", address: jilgyemot_book as _, bound: 131_072, inputs: books },
 ];
 
 /// What a call is given before its answer, and how it has to answer.
@@ -138,7 +131,7 @@ const WORDS: usize = 16;
 ///
 /// # Safety
 ///
-/// The words are arguments of the function, and the thread has `PAINTED` bytes
+/// The address is a C function's, the words are its arguments, and the thread has `PAINTED` bytes
 /// of stack and some more.
 #[unsafe(naked)]
 unsafe extern "sysv64" fn painted_call(
@@ -194,7 +187,8 @@ fn measured(address: Address, given: &mut [Given]) -> (usize, [u64; 6]) {
     words.resize(WORDS, 0);
     let words: [u64; WORDS] = words.try_into().expect("a call has at most 16 arguments");
     // A call may write a byte that looks like one paint, not like both.
-    // SAFETY: the pointers are valid for their lengths and do not overlap.
+    // SAFETY: every address here is that of a function with these arguments, and the
+    // pointers are valid for their lengths and do not overlap.
     let depths = [0xA5, 0x5A].map(|paint| unsafe { painted_call(address, &words, paint) });
     (depths[0].max(depths[1]), black_box(answer))
 }
@@ -239,13 +233,12 @@ unsafe extern "C" fn with_arguments(
 
 /// The measure itself, on functions whose depth and answer are known.
 fn check_measure() {
-    assert_eq!(measured(with_nothing, &mut []).0, 8, "a return address and no more");
-    let array = measured(with_array, &mut []).0;
+    let nothing = measured(with_nothing as Address, &mut []).0;
+    assert_eq!(nothing, 8, "a return address and no more");
+    let array = measured(with_array as Address, &mut []).0;
     assert!((ARRAY + 8..ARRAY + 256).contains(&array), "{array} for an array of {ARRAY}");
-    // SAFETY: a function is called with the arguments that it has.
-    let address: Address = unsafe { std::mem::transmute(with_arguments as *const ()) };
     let mut given: Vec<Given> = (1..=14).map(Given::Number).collect();
-    let (_, answer) = measured(address, &mut given);
+    let (_, answer) = measured(with_arguments as Address, &mut given);
     assert_eq!(Outcome::of(&answer), Outcome::Refused(0x12_3456_789A_BCDE), "the arguments");
 }
 

@@ -1,6 +1,6 @@
 //! The C interface of the leaf functions, as safe functions.
 
-use jilgyemot_host::answer::answered;
+use jilgyemot_host::answer;
 use jilgyemot_host::refusals::Input;
 
 pub use jilgyemot_host::answer::Answer;
@@ -91,6 +91,11 @@ unsafe extern "C" {
         work: u64,
         answer: *mut u64,
     );
+}
+
+/// The answer of a function that takes a pointer to its six numbers.
+fn answered(call: impl FnOnce(*mut u64)) -> Answer {
+    answer::answered(|answer| call(answer.as_mut_ptr()))
 }
 
 // SAFETY of each call: a pointer is valid for the length passed with it, the
