@@ -21,14 +21,14 @@ static const char *const contents = "# Gauge\n\n# Datum\n\nRead it with [the pum
 static void assemble(const char *list) {
     const char *url = "https://river.example/notes";
     static uint8_t out[LIMIT];
-    static uint8_t work[(FILES + MEMBERS + 2) * LIMIT];
+    static uint8_t work[JILGYEMOT_WORK_SIZE(FILES, MEMBERS, LIMIT)];
     uint64_t answer[6];
     jilgyemot_assemble((const uint8_t *)index_text, strlen(index_text),
                        (const uint8_t *)contents, strlen(contents),
                        (const uint8_t *)list, strlen(list),
                        (const uint8_t *)url, strlen(url),
                        LIMIT, out, sizeof out, work, sizeof work, answer);
-    if (answer[0] == 2) {
+    if (answer[0] == JILGYEMOT_REFUSED) {
         printf("refused %" PRIu64 ", file %" PRIu64 ", line %" PRIu64
                "; file %" PRIu64 ", line %" PRIu64 "\n",
                answer[1], answer[2], answer[3], answer[4], answer[5]);

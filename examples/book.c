@@ -27,14 +27,14 @@ static void make_book(uint32_t allowance) {
     const char *list = "docs/gauge.md\ndocs/pump.md\n";
     const char *url = "https://river.example/notes";
     static uint8_t out[LIMIT];
-    static uint8_t work[(FILES + MEMBERS + 2) * LIMIT];
+    static uint8_t work[JILGYEMOT_WORK_SIZE(FILES, MEMBERS, LIMIT)];
     uint64_t answer[6];
     jilgyemot_book((const uint8_t *)index_text, strlen(index_text),
                    (const uint8_t *)contents, strlen(contents),
                    (const uint8_t *)list, strlen(list),
                    (const uint8_t *)url, strlen(url),
                    LIMIT, allowance, out, sizeof out, work, sizeof work, answer);
-    if (answer[0] == 2) {
+    if (answer[0] == JILGYEMOT_REFUSED) {
         printf("refused %" PRIu64 ", file %" PRIu64 ", line %" PRIu64 "\n",
                answer[1], answer[2], answer[3]);
         return;

@@ -14,19 +14,19 @@ int main(void) {
     const char *name = "host.md";
     const char *text = "# Gauge\n\n<!--[fragment:docs/steps.md]-->\n<!--[/]-->\n";
     static uint8_t out[LIMIT];
-    static uint8_t work[(FILES + 2) * LIMIT];
+    static uint8_t work[JILGYEMOT_WORK_SIZE(FILES, 0, LIMIT)];
     uint64_t answer[6];
     jilgyemot_fill((const uint8_t *)index, strlen(index),
                    (const uint8_t *)contents, strlen(contents),
                    (const uint8_t *)name, strlen(name),
                    (const uint8_t *)text, strlen(text),
                    LIMIT, FILES, out, sizeof out, work, sizeof work, answer);
-    if (answer[0] == 2) {
+    if (answer[0] == JILGYEMOT_REFUSED) {
         printf("refused %" PRIu64 ", file %" PRIu64 ", line %" PRIu64 "\n",
                answer[1], answer[2], answer[3]);
         return 1;
     }
-    if (answer[0] == 1) {
+    if (answer[0] == JILGYEMOT_NO_REGION) {
         fputs(text, stdout);
         return 0;
     }

@@ -10,7 +10,7 @@ int main(void) {
     uint8_t out[256];
     uint64_t answer[6];
     jilgyemot_scan((const uint8_t *)note, strlen(note), out, sizeof out, answer);
-    if (answer[0] != 0) {
+    if (answer[0] != JILGYEMOT_ACCEPTED) {
         printf("refused %" PRIu64 ", line %" PRIu64 "\n", answer[1], answer[3]);
         return 1;
     }

@@ -19,6 +19,44 @@ extern "C" {
  * numbers. Output, work and answer overlap neither each other nor what is read.
  */
 
+/* The first number of an answer. */
+enum jilgyemot_answer {
+    JILGYEMOT_ACCEPTED = 0,
+    JILGYEMOT_NO_REGION = 1,
+    JILGYEMOT_REFUSED = 2
+};
+
+/* The second number of a refusal, in the order of document 01's table. */
+enum jilgyemot_refusal {
+    JILGYEMOT_INDEX_LINE = 1,            /* an index line is ill formed */
+    JILGYEMOT_TOO_MANY_RECORDS = 2,      /* the index has over 64 lines */
+    JILGYEMOT_PAST_CONTENTS = 3,         /* a file's part ends past the contents */
+    JILGYEMOT_NAME_TWICE = 4,            /* a name comes twice in the index */
+    JILGYEMOT_WIDE_BYTE = 5,             /* a text holds a byte 80 hex or above */
+    JILGYEMOT_NAME_FORM = 6,             /* the host's name or the URL is ill formed */
+    JILGYEMOT_LIST_FORM = 7,             /* the list lacks its last LF or has over 64 lines */
+    JILGYEMOT_SIZES = 8,                 /* the limit is outside its range or a buffer short */
+    JILGYEMOT_NESTED_REGION = 9,         /* a region is opened in a region */
+    JILGYEMOT_FRAGMENT_MARKER = 10,      /* a fragment marker shares its line or is ill spelled */
+    JILGYEMOT_UNCLOSED_REGION = 11,      /* a region is never closed */
+    JILGYEMOT_PEER_WITHOUT_HEADING = 12, /* no heading of the host stands above a peer */
+    JILGYEMOT_ON_CHAIN = 13,             /* a region names a file on its chain */
+    JILGYEMOT_ABSENT = 14,               /* a file that is named is not in the index */
+    JILGYEMOT_ALLOWANCE = 15,            /* the allowance is used up */
+    JILGYEMOT_HEADING_LEVEL = 16,        /* a heading would be past level 6 */
+    JILGYEMOT_TEXT_LIMIT = 17,           /* a text, or a scan's listing, is too long */
+    JILGYEMOT_NO_TITLE = 18,             /* a member has no heading of level 1 */
+    JILGYEMOT_SHARED_ANCHOR = 19         /* an earlier member has the same anchor */
+};
+
+/*
+ * The least length of the work buffer of a call with so many index lines, list lines
+ * (0 in a fill) and this limit. With constants it is a constant, so that a static array
+ * can have that length; larger counts than those of the call do no harm.
+ */
+#define JILGYEMOT_WORK_SIZE(records, lines, limit) \
+    (((size_t)(records) + (size_t)(lines) + (size_t)2) * (size_t)(limit))
+
 /*
  * The marker scan of a text. Accepted: the output begins with the listing, and
  * its other bytes are unchanged. Refused, the output unchanged: 5 at the line
@@ -37,7 +75,8 @@ void jilgyemot_scan(const uint8_t *text, size_t text_length,
  * to 1,048,576: no text made on the way may be longer. The allowance is how many
  * files may be taken in, each counted as often as a region takes it in. The
  * output has at least `limit` bytes, and work at least (index lines + 2) times
- * `limit`; it may hold anything, and is zero after every call.
+ * `limit`, JILGYEMOT_WORK_SIZE(index lines, 0, limit); it may hold anything, and is
+ * zero after every call.
  *
  * Accepted: 0, the text's length, how often a file was taken in, 0, 0, 0. The
  * output begins with the text, and its other bytes are unchanged. No region: 1,
@@ -76,7 +115,8 @@ void jilgyemot_fill(const uint8_t *index, size_t index_length,
  * to 64 lines, and a name may come twice; an empty list gives one LF. The URL has 1
  * to 255 bytes of 20 to 7E hex: a link to a file that is not listed is sent there.
  * The output has at least `limit` bytes, and work at least (index lines + list lines
- * + 2) times `limit`; it may hold anything, and is zero after every call.
+ * + 2) times `limit`, JILGYEMOT_WORK_SIZE(index lines, list lines, limit); it may hold
+ * anything, and is zero after every call.
  *
  * Accepted: 0, the text's length, 0, 0, 0, 0. The output begins with the text, and
  * its other bytes are unchanged. Refused, the output unchanged: 2, the number, and
