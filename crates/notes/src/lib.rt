@@ -6,6 +6,7 @@ ghost use Rattle.notes.specs.Notes.{Moved, Ends};
 use libc::STDERR_FILENO;
 use station::record;
 
+pub mod buffers;
 pub mod save;
 
 // Where a file that was read ends in its buffer; or that it can't be read, or that there is no room for it.
@@ -106,11 +107,38 @@ pub fn read_argument(i: usize, buf: &mut [u8], at: usize) -> Reading
 
 // Writes the record of the note that an argument names at a place of an index, and answers the place after it. A name of more than
 // 255 bytes is left out, and so makes a record that is ill formed.
-pub fn put_record(i: usize, index: &mut [u8], at: usize, start: usize, size: usize) -> usize
+fn put_record(i: usize, index: &mut [u8], at: usize, start: usize, size: usize) -> usize
     requires { ⌜ at + 298 ≤ length (now index) ⌝ }
     ensures { λ r. ⌜ r ≤ at + 298 ⌝ }
 {
     let mut name = [0u8; 255];
     let n = os::arg(i, &mut name);
     record::put_record(index, at, &name[..n], start, size)
+}
+
+// Reads the notes that so many arguments from one on name, one behind the other, and makes their index. Answers where the index ends, and
+// where each note ends in the contents, behind a 0 for the first one's start.
+pub fn read_notes(
+    first: usize,
+    count: usize,
+    index: &mut [u8],
+    contents: &mut [u8],
+    starts: &mut [usize; 65],
+) -> Reading
+    requires { ⌜ (first ≤ 7) × ((count ≤ 64) × (19072 ≤ length (now index))) ⌝ }
+    ensures { λ r. ⌜ Ends 0 (length (now (index .entry))) r ⌝ }
+{
+    let mut indexed = 0;
+    let mut end = 0;
+    let mut k = 0;
+    while k < count {
+        let Reading::To(e) = read_argument(first + k, contents, end) else {
+            return Reading::Unreadable;
+        };
+        indexed = put_record(first + k, index, indexed, end, e - end);
+        end = e;
+        k += 1;
+        starts[k] = end;
+    }
+    Reading::To(indexed)
 }
