@@ -1,11 +1,8 @@
 -- Laws of reads and of the room for a record. Assumes nothing.
-use Prim.Native.Nat.{ℕ, _-_, _≤_}
-use mathlib.Core.Path.{_≡_}
+use Prim.Native.Nat.{ℕ, _≤_}
 use mathlib.Core.List.{List}
 use native.Mathlib.Omega.{arith}
-use borrow.Rule.Slice.PartMut.{midOf}
-use lib.ListN.{length, drop, length-drop}
-use lib.Seq.{length-take-le}
+use lib.ListN.{length}
 use Rattle.buffer.specs.Decimal.{decimal}
 use Rattle.buffer.proofs.DecimalLaws.{decimal-le}
 use Rattle.station.specs.Station.{recordLine}
@@ -20,10 +17,6 @@ moved-none room (More n) h = absurd (omega arith)
 moved-none room End h = tt
 moved-none room Error h = tt
 moved-none room Full h = tt
-
--- the rest of a buffer
-pub rest-length : (at : ℕ) (buf : List ℕ) → at ≤ length buf → length (midOf at (length buf - at) buf) ≡ length buf - at
-rest-length at buf h = length-take-le (length buf - at) (drop at buf) (omega (arith, length-drop at buf))
 
 pub record-room : (name : List ℕ) (start size : ℕ) → length name ≤ 255 → length (recordLine name start size) ≤ 298
 record-room name start size h = omega (arith, record-length name start size, decimal-le start, decimal-le size)

@@ -8,9 +8,10 @@ use native.Mathlib.Omega.{arith}
 use borrow.Author.Tests.{eqb-false}
 use lib.Dec.{eqb}
 use lib.ListN.{length, take, drop, set, length-append}
-use lib.Seq.{sets, take-at, take-length}
+use lib.Seq.{sets, take-at}
 use Rattle.text.specs.Bytes.{part}
 use Rattle.text.specs.Lines.{LF}
+use Rattle.text.proofs.BytesLaws.{rest}
 use Rattle.buffer.specs.Decimal.{decimal}
 use Rattle.buffer.proofs.BufferLaws.{sets-append}
 use Rattle.marker.specs.Marker.{kindOf}
@@ -44,16 +45,13 @@ line-past (suc (suc k)) h e q = rw e at h
 pub piece-more : (last : Bool) (e n : ℕ) → last ≡ eqb e n → last ≡ false → e ≤ n → e + 1 ≤ n
 piece-more last e n p q h = let z = eqb-false e n (sym p ∙ q) in omega arith
 
-whole : (l : List ℕ) → part 0 (length l) l ≡ l
-whole l = let z : length l - 0 ≡ length l = omega arith in rw z (take-length l)
-
 pub named-opens : (l : List ℕ) (a e : ℕ) (peer : Bool) → kindOf false false 0 l ≡ Opens a e peer → (part a e l ≡ namedOn l) × ((a ≤ e) × (e ≤ length l))
 named-opens l a e peer q =
     let w : InKind 14 (length l) (Opens a e peer) = subst (InKind 14 (length l)) q (kind-path false false 0 l (length l) (omega arith)) in
     (sym (ap (namedAs l) q), omega arith)
 
 pub named-other : (l : List ℕ) (k : Kind) → kindOf false false 0 l ≡ k → ((a e : ℕ) (peer : Bool) → k ≡ Opens a e peer → ⊥) → (part 0 (length l) l ≡ namedOn l) × ((0 ≤ length l) × (length l ≤ length l))
-named-other l k q h = (whole l ∙ sym (ap (namedAs l) q ∙ unnamed k h), omega arith)
+named-other l k q h = (rest l 0 ∙ sym (ap (namedAs l) q ∙ unnamed k h), omega arith)
   where
     unnamed : (k : Kind) → ((a e : ℕ) (peer : Bool) → k ≡ Opens a e peer → ⊥) → namedAs l k ≡ l
     unnamed Plain h = refl

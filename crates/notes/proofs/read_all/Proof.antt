@@ -4,7 +4,7 @@ use borrow.Author.Needs.{needs}
 use native.Mathlib.Omega.{arith}
 use mathlib.Core.Path.{_≡_, refl, _∙_}
 use Prim.Native.Nat.{_-_, _≤_}
-use Rattle.notes.proofs.NotesLaws.{rest-length}
+use Rattle.text.proofs.BytesLaws.{rest-length}
 use borrow.Rule.Slice.PartMut.{same-len-mid}
 use Rattle.notes.proofs.read_all.Statement.{statement}
 use Rattle.notes.proofs.read_all.Tie as tie
@@ -34,13 +34,13 @@ enum-known-n : tie.Need-enum-known-n Inv-loop μ-loop
 enum-known-n c = search needs
 
 add-end : tie.Need-add-end Inv-loop μ-loop
-add-end c = let w = rw (c .before .n .given .1) at (c .before .before .before .before .before .read-more .ensures) in omega (arith, rest-length (c .before .before .before .before .before .before .before .loop .end) (c .before .before .before .before .before .before .before .loop .buf) (c .before .before .before .before .before .before .before .loop .inv .1 .0))
+add-end c = let w = rw (c .before .n .given .1) at (c .before .before .before .before .before .read-more .ensures) in omega (arith, rest-length (c .before .before .before .before .before .before .before .loop .buf) (c .before .before .before .before .before .before .before .loop .end))
 
 loop-less : tie.Need-loop-less Inv-loop μ-loop
-loop-less c = let w = rw (c .before .n .given .1) at (c .before .before .before .before .before .read-more .ensures) in omega (arith, rest-length (c .before .before .before .before .before .before .before .loop .end) (c .before .before .before .before .before .before .before .loop .buf) (c .before .before .before .before .before .before .before .loop .inv .1 .0), same-len-mid (c .before .before .before .before .before .before .before .loop .end) (length (c .before .before .before .before .before .before .before .loop .buf) - c .before .before .before .before .before .before .before .loop .end) (c .before .before .before .before .before .before .before .loop .buf) (c .before .before .before .before .before .read-more .last .1 .0) (c .before .before .before .before .before .read-more .kept .1 .0))
+loop-less c = let w = rw (c .before .n .given .1) at (c .before .before .before .before .before .read-more .ensures) in omega (arith, rest-length (c .before .before .before .before .before .before .before .loop .buf) (c .before .before .before .before .before .before .before .loop .end), same-len-mid (c .before .before .before .before .before .before .before .loop .end) (length (c .before .before .before .before .before .before .before .loop .buf) - c .before .before .before .before .before .before .before .loop .end) (c .before .before .before .before .before .before .before .loop .buf) (c .before .before .before .before .before .read-more .last .1 .0) (c .before .before .before .before .before .read-more .kept .1 .0))
 
 loop-again : tie.Need-loop-again Inv-loop μ-loop
-loop-again c = let w = rw (c .before .n .given .1) at (c .before .before .before .before .before .read-more .ensures) in (omega arith, (omega (arith, rest-length (c .before .before .before .before .before .before .before .loop .end) (c .before .before .before .before .before .before .before .loop .buf) (c .before .before .before .before .before .before .before .loop .inv .1 .0), same-len-mid (c .before .before .before .before .before .before .before .loop .end) (length (c .before .before .before .before .before .before .before .loop .buf) - c .before .before .before .before .before .before .before .loop .end) (c .before .before .before .before .before .before .before .loop .buf) (c .before .before .before .before .before .read-more .last .1 .0) (c .before .before .before .before .before .read-more .kept .1 .0)), same-len-mid (c .before .before .before .before .before .before .before .loop .end) (length (c .before .before .before .before .before .before .before .loop .buf) - c .before .before .before .before .before .before .before .loop .end) (c .before .before .before .before .before .before .before .loop .buf) (c .before .before .before .before .before .read-more .last .1 .0) (c .before .before .before .before .before .read-more .kept .1 .0) ∙ c .before .before .before .before .before .before .before .loop .inv .1 .1))
+loop-again c = let w = rw (c .before .n .given .1) at (c .before .before .before .before .before .read-more .ensures) in (omega arith, (omega (arith, rest-length (c .before .before .before .before .before .before .before .loop .buf) (c .before .before .before .before .before .before .before .loop .end), same-len-mid (c .before .before .before .before .before .before .before .loop .end) (length (c .before .before .before .before .before .before .before .loop .buf) - c .before .before .before .before .before .before .before .loop .end) (c .before .before .before .before .before .before .before .loop .buf) (c .before .before .before .before .before .read-more .last .1 .0) (c .before .before .before .before .before .read-more .kept .1 .0)), same-len-mid (c .before .before .before .before .before .before .before .loop .end) (length (c .before .before .before .before .before .before .before .loop .buf) - c .before .before .before .before .before .before .before .loop .end) (c .before .before .before .before .before .before .before .loop .buf) (c .before .before .before .before .before .read-more .last .1 .0) (c .before .before .before .before .before .read-more .kept .1 .0) ∙ c .before .before .before .before .before .before .before .loop .inv .1 .1))
 
 enum-told : tie.Need-enum-told Inv-loop μ-loop
 enum-told c = search needs
