@@ -1,0 +1,2 @@
+pub mod StripLaws
+pub mod HeadingTheorem

@@ -1,0 +1,69 @@
+-- Where our headings and CommonMark's part: the named departures of docs/DIFFERENCES.md, each a test of the line, and the theorem that there are no others.
+use Prim.Native.Nat.{ℕ}
+use mathlib.Core.Bool.{Bool, true, false, _&&_, _||_}
+use mathlib.Core.Option.{Option, none, some}
+use mathlib.Core.List.{List, [], _∷_, _++_}
+use mathlib.Core.Path.{_≡_}
+use lib.ListN.{length, drop, getD}
+use lib.Dec.{eqb, leb}
+use Rattle.text.specs.Pattern.{bytes, startsWith}
+use Rattle.text.specs.Space.{isSpace}
+use Rattle.heading.specs.Walk.{hashes, headingOf}
+use Rattle.commonmark.specs.Strip.{strip, indent}
+use Rattle.commonmark.specs.Atx.{Atx, atx, asAtx, isClosed}
+
+-- 1 to 6 hashes at column 0
+abbrev pub isOpened : List ℕ → Bool
+isOpened l = leb 1 (hashes l) && leb (hashes l) 6
+
+-- what stands behind them
+abbrev pub behind : List ℕ → List ℕ
+behind l = drop (hashes l) l
+
+-- one to three spaces before the hashes: a heading of CommonMark's, none of ours
+unfoldable pub indented : List ℕ → Bool
+indented l = (leb 1 (indent l) && leb (indent l) 3) && startsWith (bytes "#") (drop (indent l) l)
+
+-- a tab after the hashes: a heading of CommonMark's, none of ours
+unfoldable pub tabAfterHashes : List ℕ → Bool
+tabAfterHashes l = isOpened l && startsWith (0x09 ∷ []) (behind l)
+
+-- hashes alone: a heading of CommonMark's, none of ours
+unfoldable pub bareHashes : List ℕ → Bool
+bareHashes l = isOpened l && eqb (length (behind l)) 0
+
+-- a closing run: CommonMark drops it, we keep it
+unfoldable pub closingRun : List ℕ → Bool
+closingRun l = isClosed (strip (behind l))
+
+-- another space byte, 0A to 0D hex, at an end of the text: we trim it, CommonMark keeps it
+abbrev pub isSpaced : List ℕ → Bool
+isSpaced [] = false
+isSpaced (x ∷ s) = isSpace x || isSpace (getD (x ∷ s) (length s) 0)
+
+unfoldable pub otherSpaceBytes : List ℕ → Bool
+otherSpaceBytes l = isSpaced (strip (behind l))
+
+-- the list
+unfoldable pub departs : List ℕ → Bool
+departs l = indented l || (tabAfterHashes l || (bareHashes l || (closingRun l || otherSpaceBytes l)))
+
+-- where none of them holds, our heading is CommonMark's, for every line
+abbrev pub SameHeading : Type 0
+SameHeading = (l : List ℕ) → departs l ≡ false → asAtx l (headingOf l) ≡ atx l
+
+-- a line on which a departure holds, and what we and CommonMark say of it
+abbrev pub Parts : (List ℕ → Bool) → List ℕ → Option Atx → Option Atx → Type 0
+Parts test l ours theirs = (test l ≡ true) × ((asAtx l (headingOf l) ≡ ours) × (atx l ≡ theirs))
+
+abbrev heading : ℕ → List ℕ → Option Atx
+heading n text = some (record { level = n; text = text })
+
+-- each of them parts the two
+abbrev pub EachParts : Type 0
+EachParts =
+    Parts indented (bytes " # a") none (heading 1 (bytes "a"))
+    × (Parts tabAfterHashes (0x23 ∷ 0x09 ∷ bytes "a") none (heading 1 (bytes "a"))
+    × (Parts bareHashes (bytes "##") none (heading 2 [])
+    × (Parts closingRun (bytes "# a #") (heading 1 (bytes "a #")) (heading 1 (bytes "a"))
+    × Parts otherSpaceBytes (bytes "# a" ++ (0x0B ∷ [])) (heading 1 (bytes "a")) (heading 1 (0x61 ∷ 0x0B ∷ [])))))

@@ -1,0 +1,5 @@
+pub mod Strip
+pub mod Atx
+pub mod Headings
+pub mod Fenced
+pub mod Fences

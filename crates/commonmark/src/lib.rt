@@ -1,0 +1,1 @@
+// CommonMark's own rules for headings and fences beside ours: definitions and theorems, no code.
