@@ -11,6 +11,13 @@
 //!
 //! [`Answer::from_numbers`](crate::Answer::from_numbers) reads them. What is `None` is
 //! handed on as a null pointer of length 0, and is the same to a call as an empty slice.
+//!
+//! # Safety
+//!
+//! This holds for the C functions alone. A pointer is valid for as many bytes as the length
+//! behind it says, to read or, at `out` and `work`, to write; it may be null where that
+//! length is 0. `answer` is valid for writing six numbers. Output, work and answer overlap
+//! neither each other nor what is read. The bytes may be any.
 
 use core::ptr::{null, null_mut};
 
@@ -27,6 +34,10 @@ pub type Lent<'a> = Option<&'a mut [u8]>;
 #[link(name = "jilgyemot", kind = "static", modifiers = "-bundle")]
 unsafe extern "C" {
     /// The C function below [`scan`].
+    ///
+    /// # Safety
+    ///
+    /// The pointers are as the [module](self#safety) says.
     pub fn jilgyemot_scan(
         text: *const u8, text_length: usize,
         out: *mut u8, out_length: usize,
@@ -34,6 +45,10 @@ unsafe extern "C" {
     );
 
     /// The C function below [`fill`].
+    ///
+    /// # Safety
+    ///
+    /// The pointers are as the [module](self#safety) says.
     pub fn jilgyemot_fill(
         index: *const u8, index_length: usize,
         contents: *const u8, contents_length: usize,
@@ -46,6 +61,10 @@ unsafe extern "C" {
     );
 
     /// The C function below [`assemble`].
+    ///
+    /// # Safety
+    ///
+    /// The pointers are as the [module](self#safety) says.
     pub fn jilgyemot_assemble(
         index: *const u8, index_length: usize,
         contents: *const u8, contents_length: usize,
@@ -58,6 +77,10 @@ unsafe extern "C" {
     );
 
     /// The C function below [`book`].
+    ///
+    /// # Safety
+    ///
+    /// The pointers are as the [module](self#safety) says.
     pub fn jilgyemot_book(
         index: *const u8, index_length: usize,
         contents: *const u8, contents_length: usize,

@@ -57,6 +57,9 @@
 #![deny(unsafe_code)]
 #![warn(missing_docs)]
 
+#[cfg(not(all(target_arch = "x86_64", target_os = "linux")))]
+compile_error!("jilgyemot is a library for x86-64 Linux: build for x86_64-unknown-linux-gnu");
+
 #[allow(unsafe_code)]
 pub mod c;
 mod refusal;

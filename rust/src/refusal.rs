@@ -2,17 +2,18 @@
 
 use core::error::Error;
 use core::fmt::{self, Display, Formatter, Write};
+use core::ops::RangeInclusive;
 
 /// The sentence of each refusal, that of number 1 first, with `{}` where a name stands.
 /// The program `stationbook` prints the same ones.
 const SENTENCES: [&str; 19] = [
-    "a record is not a name of 1 to 255 printable ASCII bytes, a start and a length: \
-     rename the file or mend the index",
+    "the name is not 1 to 255 printable ASCII bytes, or its index line is ill formed: \
+     rename the file",
     "there are more than 64 records: give fewer files",
     "the record's part ends past the contents: mend its start or its length",
     "the name was given before: give each file once",
     "the line holds a byte that is not ASCII: write it in ASCII",
-    "the host's name or the URL is not 1 to 255 printable ASCII bytes: mend it",
+    "the URL, or the name of a host, is not 1 to 255 printable ASCII bytes: mend it",
     "the list has more than 64 lines or its last line has no end: mend the list",
     "the text limit is not 1 to 1,048,576, or a buffer is too short for it: \
      lend larger buffers",
@@ -23,7 +24,8 @@ const SENTENCES: [&str; 19] = [
     "the region takes in a peer and no heading of the file stands above it: \
      put a heading above, or leave :peer out",
     "the region names {}, which is already on its chain",
-    "the line names {}, which is not among the notes",
+    "the line names {}, which is not among the notes: \
+     mend the name or give the note",
     "as many files as the allowance has are taken in already: \
      a limit was met, no file needs mending",
     "the heading would be past level 6 where its text stands: give it fewer hashes",
@@ -35,6 +37,9 @@ const SENTENCES: [&str; 19] = [
 
 /// For a number that has no sentence. No call gives one.
 const NO_SENTENCE: &str = "the number is none of 1 to 19";
+
+/// The refusals whose line is one of the index.
+const AT_INDEX: RangeInclusive<u64> = 1..=4;
 
 /// The refusal with a second place.
 const SHARED_ANCHOR: u64 = 19;
@@ -78,6 +83,10 @@ pub struct Place {
 /// As text it is the place, what is wrong and what to do, and the number: `file 2, line
 /// 12: the region is never closed: put <!--[/]--> on a line below it (refusal 11)`.
 /// [`named`](Refusal::named) prints the names of files in place of their numbers.
+///
+/// At 1 to 4 the place is `index line 2`. At the others a line with file 0 is `line 12`,
+/// one of the host or of the member list, or of the text that a scan was given. At 13 and
+/// 14 the answer does not tell the name that the line has, so `a file` stands there.
 #[derive(Clone, Copy, PartialEq, Eq, Hash, Debug)]
 pub struct Refusal {
     number: u64,
@@ -116,6 +125,12 @@ impl Refusal {
     /// The refusal with the names of files in place of their numbers. The index is the one
     /// that was handed to the call.
     ///
+    /// At 1 to 4 the name is that of the index line: `docs/a.md: the name was given before:
+    /// give each file once (refusal 4)`. It stays `index line 2` where that line has no name
+    /// of 1 to 255 printable bytes with a tab behind it. Host and member list have no name
+    /// here, so a line of theirs stays `line 12`; and at 13 and 14 the words stay `a file`,
+    /// as the answer does not tell the name.
+    ///
     /// ```
     /// # use jilgyemot::{Answer, FileSet, Members, assemble, work_size};
     /// let files = FileSet { index: b"docs/gauge.md\t0\t9\n", contents: b"## Gauge\n" };
@@ -149,6 +164,15 @@ pub struct Named<'a> {
 }
 
 impl Named<'_> {
+    fn write_first_place(&self, formatter: &mut Formatter) -> fmt::Result {
+        let Refusal { number, place, .. } = self.refusal;
+        if AT_INDEX.contains(&number) {
+            write_index_line(formatter, place.line, self.index)
+        } else {
+            write_place(formatter, place, self.index)
+        }
+    }
+
     /// What stands for `{}`. A refusal does not say which file a region or a list names.
     fn write_name(&self, formatter: &mut Formatter) -> fmt::Result {
         match self.refusal {
@@ -164,7 +188,7 @@ impl Display for Named<'_> {
     fn fmt(&self, formatter: &mut Formatter) -> fmt::Result {
         let Refusal { number, place, .. } = self.refusal;
         if place != Place::default() {
-            write_place(formatter, place, self.index)?;
+            self.write_first_place(formatter)?;
             formatter.write_str(": ")?;
         }
         let sentence = self.refusal.sentence();
@@ -193,14 +217,29 @@ impl Display for Place {
 /// With the file's name where the index has one.
 fn write_place(formatter: &mut Formatter, place: Place, index: &[u8]) -> fmt::Result {
     let Some(name) = name_of(place.file, index) else { return write!(formatter, "{place}") };
-    for &byte in name {
-        formatter.write_char(char::from(byte))?;
-    }
+    write_ascii(formatter, name)?;
     if place.line == 0 { Ok(()) } else { write!(formatter, ":{}", place.line) }
 }
 
-/// The name in a line of the index, counted from 1.
-fn name_of(file: usize, index: &[u8]) -> Option<&[u8]> {
-    let line = index.split(|&byte| byte == b'\n').nth(file.checked_sub(1)?)?;
-    line.split(|&byte| byte == b'\t').next().filter(|name| !name.is_empty())
+/// A line of the index by its name, where it has one.
+fn write_index_line(formatter: &mut Formatter, line: usize, index: &[u8]) -> fmt::Result {
+    match name_of(line, index) {
+        Some(name) => write_ascii(formatter, name),
+        None => write!(formatter, "index line {line}"),
+    }
+}
+
+fn write_ascii(formatter: &mut Formatter, bytes: &[u8]) -> fmt::Result {
+    bytes.iter().try_for_each(|&byte| formatter.write_char(char::from(byte)))
+}
+
+/// The name in a line of the index, counted from 1. A refused index may lack it.
+fn name_of(line: usize, index: &[u8]) -> Option<&[u8]> {
+    let line = index.split(|&byte| byte == b'\n').nth(line.checked_sub(1)?)?;
+    let tab = line.iter().position(|&byte| byte == b'\t')?;
+    Some(&line[..tab]).filter(|name| is_name(name))
+}
+
+fn is_name(bytes: &[u8]) -> bool {
+    (1..=255).contains(&bytes.len()) && bytes.iter().all(|byte| (b' '..=b'~').contains(byte))
 }

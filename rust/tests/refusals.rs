@@ -63,15 +63,15 @@ fn of_assemblies() -> [Refusal; 3] {
 
 /// These refusals in words.
 const WORDS: [&str; 19] = [
-    "line 1: a record is not a name of 1 to 255 printable ASCII bytes, a start and a \
-     length: rename the file or mend the index (refusal 1)",
-    "line 65: there are more than 64 records: give fewer files (refusal 2)",
-    "line 1: the record's part ends past the contents: mend its start or its length \
-     (refusal 3)",
-    "line 2: the name was given before: give each file once (refusal 4)",
+    "index line 1: the name is not 1 to 255 printable ASCII bytes, or its index line is \
+     ill formed: rename the file (refusal 1)",
+    "index line 65: there are more than 64 records: give fewer files (refusal 2)",
+    "index line 1: the record's part ends past the contents: mend its start or its \
+     length (refusal 3)",
+    "index line 2: the name was given before: give each file once (refusal 4)",
     "file 2, line 1: the line holds a byte that is not ASCII: write it in ASCII \
      (refusal 5)",
-    "the host's name or the URL is not 1 to 255 printable ASCII bytes: mend it \
+    "the URL, or the name of a host, is not 1 to 255 printable ASCII bytes: mend it \
      (refusal 6)",
     "the list has more than 64 lines or its last line has no end: mend the list \
      (refusal 7)",
@@ -86,7 +86,8 @@ const WORDS: [&str; 19] = [
     "file 1, line 1: the region takes in a peer and no heading of the file stands above \
      it: put a heading above, or leave :peer out (refusal 12)",
     "file 1, line 2: the region names a file, which is already on its chain (refusal 13)",
-    "file 1, line 2: the line names a file, which is not among the notes (refusal 14)",
+    "file 1, line 2: the line names a file, which is not among the notes: mend the name \
+     or give the note (refusal 14)",
     "file 1, line 2: as many files as the allowance has are taken in already: a limit \
      was met, no file needs mending (refusal 15)",
     "file 2, line 2: the heading would be past level 6 where its text stands: give it \
@@ -136,7 +137,8 @@ fn a_place_without_a_name_keeps_its_numbers() {
     let (index, _) = set_of(&NOTES);
     let host = ("host.md", "<!--[fragment:zz]-->\n<!--[/]-->\n");
     let refusal = fill_of(&NOTES, host, LIMITS).expect_err("a refusal");
-    let words = "line 1: the line names a file, which is not among the notes (refusal 14)";
+    let words = "line 1: the line names a file, which is not among the notes: \
+        mend the name or give the note (refusal 14)";
     assert_eq!(refusal.named(&index).to_string(), words);
 
     let Answer::Refused(third) = Answer::from_numbers([2, 18, 3, 0, 0, 0], b"") else {
@@ -145,4 +147,44 @@ fn a_place_without_a_name_keeps_its_numbers() {
     for index in [&index[..], b"", b"\n\n\n", b"a\n"] {
         assert_eq!(third.named(index).to_string(), third.to_string());
     }
+}
+
+/// What stands before the sentence of a book's refusal by its index, and the number.
+fn start_by_index(index: &[u8]) -> (String, u64) {
+    let refusal = of_parts(index, b"# T\n", b"", URL);
+    let words = refusal.named(index).to_string();
+    let start = words.split(": ").next().expect("a place");
+    assert!(words[start.len()..].starts_with(&format!(": {} (", refusal.sentence())));
+    (start.to_string(), refusal.number())
+}
+
+#[test]
+fn an_index_line_is_told_by_its_name() {
+    let many: String = (1..=65).map(|at| format!("n{at}\t0\t0\n")).collect();
+    let cases: [(&[u8], &str, u64); 5] = [
+        (b"a\t0\t0\ndocs/b.md\t0\n", "docs/b.md", 1),
+        (b"a\t0\t0\nb\t00\t0", "b", 1),
+        (many.as_bytes(), "n65", 2),
+        (b"a\t0\t0\nit's ~.md\t0\t5\n", "it's ~.md", 3),
+        (b"docs/a.md\t0\t4\nb\t0\t0\ndocs/a.md\t0\t4\n", "docs/a.md", 4),
+    ];
+    for (index, start, number) in cases {
+        assert_eq!(start_by_index(index), (start.to_string(), number));
+    }
+}
+
+#[test]
+fn an_index_line_without_a_name_keeps_its_number() {
+    let lines: [&[u8]; 6] = [b"", b"b", b"\t0\t0", b"b\x1F\t0\t0", b"b\x7F\t0\t0", b"\xE9\t0\t0"];
+    for line in lines {
+        let index = [b"a\t0\t0\n", line, b"\n"].concat();
+        assert_eq!(start_by_index(&index), ("index line 2".to_string(), 1));
+    }
+}
+
+#[test]
+fn a_name_in_an_index_line_has_255_bytes_at_most() {
+    let named = |size| format!("{}\t0\t5\n", "n".repeat(size));
+    assert_eq!(start_by_index(named(255).as_bytes()), ("n".repeat(255), 3));
+    assert_eq!(start_by_index(named(256).as_bytes()), ("index line 1".to_string(), 1));
 }

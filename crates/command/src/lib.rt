@@ -18,7 +18,7 @@ const REFUSED: i32 = 1;
 const NO_CALL: i32 = 2;
 
 // The size of the work buffer.
-const WORK: usize = 5_242_880;
+const WORK: usize = 3_670_016;
 
 // Writes the book, so long at the front of a buffer, to standard output or to the file that an argument names.
 fn give(book: usize, out: &[u8], length: usize) -> i32 {
@@ -94,10 +94,25 @@ fn call_on(call: Call) -> i32
     make(call, &index[..indexed], &contents, &list[..listed], &starts)
 }
 
+// Whether the book can go where it is to go: to no file, or to one that is none of those read.
+fn can_give(call: Call) -> bool
+    requires { ⌜ Called call ⌝ }
+{
+    if call.book == 0 {
+        return true;
+    }
+    notes::save::can_save(call.book, call.url + 1, call.notes + 1)
+}
+
 // Runs stationbook on the program's arguments, and answers its exit status.
 pub fn run() -> i32 {
     match arguments::read() {
-        Arguments::Call(call) => call_on(call),
+        Arguments::Call(call) => {
+            if can_give(call) {
+                return call_on(call);
+            }
+            NO_CALL
+        }
         Arguments::Usage => {
             io::write_all(
                 STDERR_FILENO,

@@ -17,8 +17,8 @@ pub fn text_buffer() -> [u8; 1048576]
 }
 
 // For the book call.
-pub fn work_buffer() -> [u8; 5242880]
-    ensures { λ r. ⌜ 5242880 ≡ length r ⌝ }
+pub fn work_buffer() -> [u8; 3670016]
+    ensures { λ r. ⌜ 3670016 ≡ length r ⌝ }
 {
-    [0; 5242880]
+    [0; 3670016]
 }

@@ -5,6 +5,7 @@ ghost use lib.ListN.{length};
 ghost use Rattle.notes.specs.Notes.{Moved, Ends};
 use libc::STDERR_FILENO;
 use station::record;
+use station::shown;
 
 pub mod buffers;
 pub mod save;
@@ -94,7 +95,15 @@ pub fn read_argument(i: usize, buf: &mut [u8], at: usize) -> Reading
 {
     let mut name = io::buffer();
     let n = os::arg(i, &mut name);
+    if n == 0 {
+        io::write_all(
+            STDERR_FILENO,
+            b"stationbook: the name of a file is empty or too long\n",
+        );
+        return Reading::Unreadable;
+    }
     let fd = os::open_read(&name[..n]);
+    shown::show(&mut name);
     if fd < 0 {
         os::fail(&name[..n]);
         return Reading::Unreadable;
@@ -105,15 +114,18 @@ pub fn read_argument(i: usize, buf: &mut [u8], at: usize) -> Reading
     reading
 }
 
-// Writes the record of the note that an argument names at a place of an index, and answers the place after it. A name of more than
-// 255 bytes is left out, and so makes a record that is ill formed.
+// Writes the record of the note that an argument names at a place of an index, and answers the place after it. What is no name is left
+// out, so that the record is ill formed and no byte of it makes another.
 fn put_record(i: usize, index: &mut [u8], at: usize, start: usize, size: usize) -> usize
     requires { ⌜ at + 298 ≤ length (now index) ⌝ }
     ensures { λ r. ⌜ r ≤ at + 298 ⌝ }
 {
     let mut name = [0u8; 255];
     let n = os::arg(i, &mut name);
-    record::put_record(index, at, &name[..n], start, size)
+    if index::name::is_name(&name[..n]) {
+        return record::put_record(index, at, &name[..n], start, size);
+    }
+    record::put_record(index, at, b"", start, size)
 }
 
 // Reads the notes that so many arguments from one on name, one behind the other, and makes their index. Answers where the index ends, and

@@ -10,3 +10,7 @@ argumentOf url number file line = cond (ltb 0 file) (url + 1 + file) (cond (leb 
 -- whether the sentence of a refusal has a name in it: the file that is named at 13 and 14, the second place at 19
 abbrev pub hasName : ℕ → Bool
 hasName number = eqb number 13 || eqb number 14 || eqb number 19
+
+-- a number of a file or a line; one past 32 bits would count as none
+unfoldable pub boundedOf : ℕ → ℕ
+boundedOf n = cond (ltb 4294967295 n) 0 n

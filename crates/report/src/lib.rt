@@ -1,8 +1,9 @@
 // What is said on standard error of a refusal: its place, its sentence and its number.
 ghost use mathlib.Core.Path.{_≡_};
 ghost use Prim.Native.Nat.{_≤_};
-ghost use Rattle.report.specs.Report.{argumentOf};
+ghost use Rattle.report.specs.Report.{argumentOf, boundedOf};
 use libc::STDERR_FILENO;
+use station::shown;
 
 pub mod named;
 pub mod words;
@@ -23,7 +24,7 @@ fn argument_of(url: usize, number: u64, file: usize, line: usize) -> usize
 
 // A file's or a line's number, which is never past 32 bits.
 fn bounded(n: u64) -> usize
-    ensures { λ r. ⌜ r ≤ 4294967295 ⌝ }
+    ensures { λ r. ⌜ (r ≡ boundedOf n) × (r ≤ 4294967295) ⌝ }
 {
     if 4_294_967_295 < n {
         return 0;
@@ -34,6 +35,7 @@ fn bounded(n: u64) -> usize
 fn say_argument(i: usize) {
     let mut word = io::buffer();
     let n = os::arg(i, &mut word);
+    shown::show(&mut word);
     io::write_all(STDERR_FILENO, &word[..n]);
 }
 
@@ -80,7 +82,7 @@ pub fn say_refusal(
     words::say_first(STDERR_FILENO, number);
     if number == 19 {
         let other = bounded(numbers[4]);
-        say_argument(url + 1 + other);
+        say_argument(argument_of(url, number, other, 0));
         say_line(bounded(numbers[5]));
     } else if words::has_name(number) {
         named::say_named(file, line, starts, contents, list);

@@ -2,13 +2,27 @@
 ghost use Prim.Native.Nat.{_≤_};
 use libc::STDERR_FILENO;
 use station::line;
+use station::shown;
+
+// A text as it is shown, if it is no longer than a path.
+fn say_shown(s: &[u8]) {
+    let mut path = io::buffer();
+    let n = s.len();
+    if 4096 < n {
+        io::write_all(STDERR_FILENO, b"a path of more than 4,096 bytes");
+        return;
+    }
+    buffer::copy(s, &mut path, 0);
+    shown::show(&mut path);
+    io::write_all(STDERR_FILENO, &path[..n]);
+}
 
 // The path of a region's opener.
 fn say_path(opener: &[u8]) {
     let p = line::named_on(opener);
     let start = p.start;
     let end = p.end;
-    io::write_all(STDERR_FILENO, &opener[start..end]);
+    say_shown(&opener[start..end]);
 }
 
 // The path of the region that opens on a line of a note, or the name on a line of the list.

@@ -14,7 +14,7 @@ pub fn say_first(fd: i32, number: u64) {
     match number {
         1 => io::write_all(
             fd,
-            b"a record is not a name of 1 to 255 printable ASCII bytes, a start and a length: rename the file or mend the index",
+            b"the name is not 1 to 255 printable ASCII bytes, or its index line is ill formed: rename the file",
         ),
         2 => io::write_all(fd, b"there are more than 64 records: give fewer files"),
         3 => io::write_all(
@@ -28,7 +28,7 @@ pub fn say_first(fd: i32, number: u64) {
         ),
         6 => io::write_all(
             fd,
-            b"the host's name or the URL is not 1 to 255 printable ASCII bytes: mend it",
+            b"the URL, or the name of a host, is not 1 to 255 printable ASCII bytes: mend it",
         ),
         7 => io::write_all(
             fd,
@@ -79,7 +79,10 @@ pub fn say_first(fd: i32, number: u64) {
 pub fn say_last(fd: i32, number: u64) {
     match number {
         13 => io::write_all(fd, b", which is already on its chain"),
-        14 => io::write_all(fd, b", which is not among the notes"),
+        14 => io::write_all(
+            fd,
+            b", which is not among the notes: mend the name or give the note",
+        ),
         19 => io::write_all(fd, b": change one of the two"),
         _ => false,
     }

@@ -7,7 +7,7 @@ use native.Mathlib.Numerals.{add-one}
 use native.Mathlib.Omega.{arith}
 use borrow.Author.Tests.{eqb-false}
 use lib.Dec.{eqb}
-use lib.ListN.{length, take, drop, set, length-append}
+use lib.ListN.{length, take, drop, set, getD, length-append}
 use lib.Seq.{sets, take-at}
 use Rattle.text.specs.Bytes.{part}
 use Rattle.text.specs.Lines.{LF}
@@ -18,7 +18,7 @@ use Rattle.marker.specs.Marker.{kindOf}
 use Rattle.marker.specs.declared.line.Kind.{Kind}
 use Rattle.marker.specs.declared.line.Kind.the-variants.{Plain, Fence, Fault, Closes, Opens, Spans}
 use Rattle.regions.proofs.PlaceLaws.{InKind, kind-path}
-use Rattle.station.specs.Station.{TAB, recordLine, nthLine, namedAs, namedOn}
+use Rattle.station.specs.Station.{TAB, recordLine, nthLine, namedAs, namedOn, shownByte, shownUpTo}
 
 pub line-none : (k : ℕ) (x : List (List ℕ)) {n : List ℕ} → nthLine k x ≡ n → k ≡ 0 → [] ≡ n
 unfolding nthLine
@@ -85,3 +85,29 @@ record-put l name start size at {l₁} {l₂} {l₃} {i} {j} {k} p₁ q₁ p₂ 
 pub record-length : (name : List ℕ) (start size : ℕ) → length (recordLine name start size) ≡ length name + (length (decimal start) + (length (decimal size) + 3))
 record-length name start size =
     omega (arith, length-append name ((TAB ∷ decimal start) ++ ((TAB ∷ decimal size) ++ (LF ∷ []))), length-append (TAB ∷ decimal start) ((TAB ∷ decimal size) ++ (LF ∷ [])), length-append (TAB ∷ decimal size) (LF ∷ []))
+
+-- one byte more is shown
+pub shown-length : (n : ℕ) (s : List ℕ) → length (shownUpTo n s) ≡ length s
+unfolding shownUpTo
+shown-length zero s = refl
+shown-length (suc n) [] = refl
+shown-length (suc n) (x ∷ s) = ap suc (shown-length n s)
+
+shown-next : (n : ℕ) (s : List ℕ) → n < length s → getD (shownUpTo n s) n 0 ≡ getD s n 0
+unfolding shownUpTo
+shown-next zero s h = refl
+shown-next (suc n) [] h = refl
+shown-next (suc n) (x ∷ s) h = shown-next n s (omega arith)
+
+shown-more : (n : ℕ) (s : List ℕ) → n < length s → set (shownUpTo n s) n (shownByte (getD s n 0)) ≡ shownUpTo (n + 1) s
+unfolding shownUpTo
+shown-more n [] h = absurd (omega arith)
+shown-more zero (x ∷ s) h = refl
+shown-more (suc n) (x ∷ s) h = let z : suc n + 1 ≡ suc (n + 1) = omega arith in rw z (ap (λ (l : List ℕ). shownByte x ∷ l) (shown-more n s (omega arith)))
+
+pub shown-turn : (i : ℕ) (s₀ : List ℕ) {s : List ℕ} {b : ℕ} → s ≡ shownUpTo i s₀ → i < length s₀ → b ≡ shownByte (getD s i 0) → set s i b ≡ shownUpTo (i + 1) s₀
+shown-turn i s₀ p h q = rw (q, p, shown-next i s₀ h) (shown-more i s₀ h)
+
+pub shown-none : (s : List ℕ) → s ≡ shownUpTo 0 s
+unfolding shownUpTo
+shown-none s = refl

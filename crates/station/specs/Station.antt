@@ -2,10 +2,12 @@
 use Prim.Native.Nat.{ℕ, zero, suc, _+_, _/_}
 use mathlib.Core.Bool.{false, cond}
 use mathlib.Core.List.{List, [], _∷_, _++_}
+use lib.ListN.{length}
 use lib.Dec.{ltb}
 use Rattle.text.specs.Bytes.{part}
 use Rattle.text.specs.Lines.{LF}
 use Rattle.buffer.specs.Decimal.{decimal}
+use Rattle.index.specs.Index.{isPrinted}
 use Rattle.marker.specs.Marker.{kindOf}
 use Rattle.marker.specs.declared.line.Kind.{Kind}
 use Rattle.marker.specs.declared.line.Kind.the-variants.{Plain, Fence, Fault, Closes, Opens, Spans}
@@ -39,3 +41,15 @@ namedAs l (Spans i) = l
 
 abbrev pub namedOn : List ℕ → List ℕ
 namedOn l = namedAs l (kindOf false false 0 l)
+
+-- a text with `?` in place of each byte that no name has, up to a place, and whole
+abbrev pub shownByte : ℕ → ℕ
+shownByte x = cond (isPrinted x) x 0x3F
+
+unfoldable pub shownUpTo : ℕ → List ℕ → List ℕ
+shownUpTo zero s = s
+shownUpTo (suc n) [] = []
+shownUpTo (suc n) (x ∷ s) = shownByte x ∷ shownUpTo n s
+
+abbrev pub shown : List ℕ → List ℕ
+shown s = shownUpTo (length s) s

@@ -5,6 +5,7 @@ ghost use Rattle.station.specs.Station.{largestLimit};
 
 pub mod line;
 pub mod record;
+pub mod shown;
 
 // The largest text limit of all.
 const MOST: usize = 1_048_576;

@@ -6,7 +6,7 @@ use Rattle.notes.proofs.buffers.work_buffer.Statement.{statement}
 use Rattle.notes.proofs.buffers.work_buffer.Tie as tie
 
 returns : tie.Need-returns
-returns c = sym (length-replicate {A = ℕ} 5242880 0)
+returns c = sym (length-replicate {A = ℕ} 3670016 0)
 
 pub work-buffer-spec : {M : Type 1} → statement M
 work-buffer-spec = tie.close (tie.spec returns)

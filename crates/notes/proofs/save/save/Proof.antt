@@ -15,15 +15,6 @@ slice-aggregate-arg c = search needs
 arg-requires : tie.Need-arg-requires
 arg-requires c κs = search needs
 
-array-share-prefix-name : tie.Need-array-share-prefix-name
-array-share-prefix-name c = search needs
-
-slice-aggregate-fail : tie.Need-slice-aggregate-fail
-slice-aggregate-fail c = search needs
-
-fail-requires : tie.Need-fail-requires
-fail-requires c κs = search needs
-
 returns : tie.Need-returns
 returns c = search needs
 
@@ -36,8 +27,8 @@ slice-aggregate-copy-2 c = search needs
 copy-requires : tie.Need-copy-requires
 copy-requires c κs = search needs
 
-array-share-prefix-name-2 : tie.Need-array-share-prefix-name-2
-array-share-prefix-name-2 c = search needs
+array-share-prefix-name : tie.Need-array-share-prefix-name
+array-share-prefix-name c = search needs
 
 slice-aggregate-replace : tie.Need-slice-aggregate-replace
 slice-aggregate-replace c = search needs
@@ -61,14 +52,11 @@ save-spec =
     buffer-requires
     slice-aggregate-arg
     arg-requires
-    array-share-prefix-name
-    slice-aggregate-fail
-    fail-requires
     returns
     slice-aggregate-copy
     slice-aggregate-copy-2
     copy-requires
-    array-share-prefix-name-2
+    array-share-prefix-name
     slice-aggregate-replace
     array-share-prefix-beside
     slice-aggregate-replace-2
