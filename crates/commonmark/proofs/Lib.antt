@@ -1,2 +1,4 @@
 pub mod StripLaws
 pub mod HeadingTheorem
+pub mod FenceLaws
+pub mod FenceTheorem
