@@ -53,7 +53,7 @@ shut : (m : Mark) (l : List ℕ) → threeOf m l ≡ false → opensWith m l ≡
 unfolding opensWith
 shut m l t = rw (unseen m l t) (and-false (leb (indent l) 3) (isInfo m (info m (unindented l))))
 
-opened : (l : List ℕ) (a b : Bool) → threeOf backtick l ≡ a → threeOf tilde l ≡ b → departs none l ≡ false → opener l ≡ asFence (codeOpener l)
+pub opened : (l : List ℕ) (a b : Bool) → threeOf backtick l ≡ a → threeOf tilde l ≡ b → departs none l ≡ false → opener l ≡ asFence (codeOpener l)
 unfolding departs backtickInInfo opener codeOpener
 opened l true b p q d =
     let r = or-right (indentedByFour none l) _ d in
@@ -82,7 +82,7 @@ same-kind tilde l false p = go (threeOf backtick l) refl
     go true q = rw q
     go false q = rw (q, p)
 
-closed : (f : CodeFence) (l : List ℕ) (b : Bool) → threeOf (f .mark) l ≡ b → 3 ≤ f .length → departs (some f) l ≡ false → closesCode f l ≡ b
+pub closed : (f : CodeFence) (l : List ℕ) (b : Bool) → threeOf (f .mark) l ≡ b → 3 ≤ f .length → departs (some f) l ≡ false → closesCode f l ≡ b
 unfolding departs closesCode shorterCloser textAfterCloser
 closed f l true p h d =
     let r = or-right (indentedByFour (some f) l) _ d in

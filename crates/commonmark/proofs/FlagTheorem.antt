@@ -1,0 +1,144 @@
+-- Where no named departure holds the scan is in a fence behind a line exactly where CommonMark is. Assumes nothing.
+use Prim.Native.Nat.{ℕ, _≤_}
+use mathlib.Core.Path.{_≡_, refl, sym, _∙_, ap}
+use mathlib.Core.Bool.{Bool, true, false, cond, not, _&&_, _||_, false≢true}
+use mathlib.Core.List.{List}
+use mathlib.Core.Option.{Option, none, some}
+use borrow.Author.Tests.{leb-true}
+use lib.Dec.{leb}
+use Rattle.text.specs.Pattern.{equals, contains, find}
+use Rattle.text.specs.Space.{trim}
+use Rattle.text.specs.declared.pattern.Found.{Found}
+use Rattle.text.specs.declared.pattern.Found.the-variants.{At, Nothing}
+use Rattle.text.proofs.BytesLaws.{or-left, or-right}
+use Rattle.fence.specs.Fences.{isFence, opener, opens}
+use Rattle.marker.specs.Marker.{OPEN, CLOSE, OPEN-FRAGMENT, fragmentOf, fragmentKind, markedKind, kindOf}
+use Rattle.marker.specs.declared.line.Fragment.{Fragment}
+use Rattle.marker.specs.declared.line.Fragment.the-variants.{Path, Other}
+use Rattle.marker.specs.declared.line.Kind.{Kind}
+use Rattle.marker.specs.declared.line.Kind.the-variants.{Plain, Fence, Fault, Closes, Opens, Spans}
+use Rattle.scan.specs.Scan.{after, kindAt, isOpen as isOpenRegion}
+use Rattle.scan.specs.declared.state.State.{State}
+use Rattle.commonmark.specs.Strip.{indent}
+use Rattle.commonmark.specs.Fenced.{Mark, backtick, tilde, CodeFence, unindented, run, opensWith, codeOpener, closesCode, codeAfter}
+use Rattle.commonmark.specs.Fences.{threeOf, otherOf, otherKindCloses, departs, scanDeparts, kindOfMark, asFence, isOpen, IsFence, SameFlag, StaysFence}
+use Rattle.commonmark.proofs.FenceTheorem.{opened, closed}
+
+-- a kind that is no fence
+abbrev IsOther : Kind → Type 0
+IsOther Plain = Unit {0}
+IsOther Fence = ⊥
+IsOther (Fault k) = Unit {0}
+IsOther Closes = Unit {0}
+IsOther (Opens a e peer) = Unit {0}
+IsOther (Spans i) = Unit {0}
+
+kept : (st : State) (n at : ℕ) (k : Kind) → IsOther k → after st n at k .fence ≡ st .fence
+unfolding after
+kept st n at Plain h = refl
+kept st n at Fence h = absurd h
+kept st n at (Fault k) h = refl
+kept st n at Closes h = refl
+kept st n at (Opens a e peer) h = refl
+kept st n at (Spans i) h = refl
+
+other-fragment : (b : Bool) (i : ℕ) (l : List ℕ) (f : Fragment) → IsOther (fragmentKind b i l f)
+unfolding fragmentKind
+other-fragment true i l (Path a e peer) = tt
+other-fragment false i l (Path a e peer) = tt
+other-fragment b i l Other = go (contains OPEN-FRAGMENT l)
+  where
+    go : (x : Bool) → IsOther (cond x (Fault 3) (Spans i))
+    go true = tt
+    go false = tt
+
+other-marked : (fence inside : Bool) (o : ℕ) (l : List ℕ) (f : Found) → IsOther (markedKind fence inside o l f)
+unfolding markedKind
+other-marked fence inside o l Nothing = tt
+other-marked true inside o l (At i) = tt
+other-marked false inside o l (At i) = go (inside && equals CLOSE (trim l))
+  where
+    go : (x : Bool) → IsOther (cond x Closes (fragmentKind inside i l (fragmentOf o l)))
+    go true = tt
+    go false = other-fragment inside i l (fragmentOf o l)
+
+-- the flag behind a line
+flag : (st : State) (n at : ℕ) (l : List ℕ) (b : Bool) → isFence l ≡ b → after st n at (kindAt st at l) .fence ≡ cond b (not (st .fence)) (st .fence)
+unfolding kindAt kindOf after
+flag st n at l true e = rw e
+flag st n at l false e = rw e (kept st n at (markedKind (st .fence) (isOpenRegion (st .region)) at l (find OPEN l)) (other-marked (st .fence) (isOpenRegion (st .region)) at l (find OPEN l)))
+
+-- a fence of either kind
+either : (l : List ℕ) → isFence l ≡ (threeOf backtick l || threeOf tilde l)
+unfolding isFence
+either l = refl
+
+or-here : (a b : Bool) → b ≡ false → (a || b) ≡ a
+or-here true b e = refl
+or-here false b e = e
+
+-- in a fence, only its own kind is left
+own : (m : Mark) (l : List ℕ) → threeOf (otherOf m) l ≡ false → isFence l ≡ threeOf m l
+own backtick l h = either l ∙ or-here (threeOf backtick l) (threeOf tilde l) h
+own tilde l h = either l ∙ rw h
+
+fence-opens : (l : List ℕ) → isFence l ≡ opens (opener l)
+unfolding isFence opener
+fence-opens l = go (threeOf backtick l) (threeOf tilde l) refl refl
+  where
+    go : (a b : Bool) → threeOf backtick l ≡ a → threeOf tilde l ≡ b → (threeOf backtick l || threeOf tilde l) ≡ opens (opener l)
+    go true b p q = rw p
+    go false true p q = rw (p, q)
+    go false false p q = rw (p, q)
+
+mark-opens : (m : Mark) → opens (kindOfMark m) ≡ true
+mark-opens backtick = refl
+mark-opens tilde = refl
+
+code-opens : (o : Option CodeFence) → opens (asFence o) ≡ isOpen o
+code-opens none = refl
+code-opens (some f) = mark-opens (f .mark)
+
+pub same-flag : SameFlag
+unfolding scanDeparts otherKindCloses
+same-flag none st n at l h e d =
+    let q = fence-opens l ∙ (ap opens (opened l (threeOf backtick l) (threeOf tilde l) refl refl (or-right (otherKindCloses none l) _ d)) ∙ code-opens (codeOpener l)) in
+    flag st n at l (isFence l) refl ∙ (go (isFence l) ∙ q)
+  where
+    go : (b : Bool) → cond b (not (st .fence)) (st .fence) ≡ b
+    go true = rw e
+    go false = e
+same-flag (some f) st n at l h e d =
+    flag st n at l (threeOf (f .mark) l) (own (f .mark) l (or-left (otherKindCloses (some f) l) _ d))
+    ∙ go (threeOf (f .mark) l) (closed f l (threeOf (f .mark) l) refl h (or-right (otherKindCloses (some f) l) _ d))
+  where
+    go : (b : Bool) → closesCode f l ≡ b → cond b (not (st .fence)) (st .fence) ≡ isOpen (codeAfter (some f) l)
+    go true q = rw (e, q)
+    go false q = rw (e, q)
+
+and-left : (a b : Bool) → (a && b) ≡ true → a ≡ true
+and-left true b h = refl
+and-left false b h = h
+
+and-right : (a b : Bool) → (a && b) ≡ true → b ≡ true
+and-right true b h = h
+and-right false b h = absurd (false≢true h)
+
+-- an opener has three bytes or more, so what is open stays a fence
+opener-long : (m : Mark) (l : List ℕ) → opensWith m l ≡ true → 3 ≤ run m (unindented l)
+unfolding opensWith
+opener-long m l h = leb-true 3 (run m (unindented l)) (and-left _ _ (and-right (leb (indent l) 3) _ h))
+
+pub stays-fence : StaysFence
+unfolding codeOpener
+stays-fence none l h = go (opensWith backtick l) (opensWith tilde l) refl refl
+  where
+    go : (a b : Bool) → opensWith backtick l ≡ a → opensWith tilde l ≡ b → IsFence (codeOpener l)
+    go true b p q = rw p (opener-long backtick l p)
+    go false true p q = rw (p, q) (opener-long tilde l q)
+    go false false p q = rw (p, q) tt
+stays-fence (some f) l h = go (closesCode f l)
+  where
+    go : (b : Bool) → IsFence (cond b none (some f))
+    go true = tt
+    go false = h
