@@ -6,8 +6,9 @@ use mathlib.Core.List.{List}
 use mathlib.Core.Option.{Option, none, some}
 use borrow.Author.Tests.{leb-true}
 use lib.Dec.{leb}
-use Rattle.text.specs.Pattern.{equals, contains, find}
-use Rattle.text.specs.Space.{trim}
+use Rattle.text.specs.Pattern.{startsWith, equals, contains, find}
+use Rattle.text.specs.Space.{isSpace, lead, trimStart, trim}
+use Rattle.text.specs.Bytes.{any, first}
 use Rattle.text.specs.declared.pattern.Found.{Found}
 use Rattle.text.specs.declared.pattern.Found.the-variants.{At, Nothing}
 use Rattle.text.proofs.BytesLaws.{or-left, or-right}
@@ -17,11 +18,12 @@ use Rattle.marker.specs.declared.line.Fragment.{Fragment}
 use Rattle.marker.specs.declared.line.Fragment.the-variants.{Path, Other}
 use Rattle.marker.specs.declared.line.Kind.{Kind}
 use Rattle.marker.specs.declared.line.Kind.the-variants.{Plain, Fence, Fault, Closes, Opens, Spans}
+use Rattle.heading.specs.Walk.{closes, stepAfter, outsideAfter, commentAfter}
 use Rattle.scan.specs.Scan.{after, kindAt, isOpen as isOpenRegion}
 use Rattle.scan.specs.declared.state.State.{State}
 use Rattle.commonmark.specs.Strip.{indent}
 use Rattle.commonmark.specs.Fenced.{Mark, backtick, tilde, CodeFence, unindented, run, opensWith, codeOpener, closesCode, codeAfter}
-use Rattle.commonmark.specs.Fences.{threeOf, otherOf, otherKindCloses, departs, scanDeparts, kindOfMark, asFence, isOpen, IsFence, SameFlag, StaysFence}
+use Rattle.commonmark.specs.Fences.{threeOf, otherOf, indentedByFour, otherSpaceBefore, backtickInInfo, shorterCloser, textAfterCloser, otherKindCloses, departs, scanDeparts, kindOfMark, asFence, isOpen, IsFence, SameFlag, StaysFence, EachParts, OtherKindParts}
 use Rattle.commonmark.proofs.FenceTheorem.{opened, closed}
 
 -- a kind that is no fence
@@ -142,3 +144,11 @@ stays-fence (some f) l h = go (closesCode f l)
     go : (b : Bool) → IsFence (cond b none (some f))
     go true = tt
     go false = h
+
+pub each-parts : EachParts
+unfolding indentedByFour otherSpaceBefore backtickInInfo shorterCloser textAfterCloser stepAfter outsideAfter closes opener codeOpener opensWith closesCode run indent first any lead trimStart isSpace startsWith commentAfter
+each-parts = ((refl, (refl, refl)), ((refl, (refl, refl)), ((refl, (refl, refl)), ((refl, (refl, refl)), ((refl, (refl, refl)), ((refl, (refl, refl)), (refl, (refl, refl))))))))
+
+pub other-kind-parts : OtherKindParts
+unfolding otherKindCloses after kindAt kindOf isFence closesCode run indent first lead trimStart isSpace startsWith
+other-kind-parts = (refl, (refl, refl))

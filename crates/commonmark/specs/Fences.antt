@@ -14,6 +14,7 @@ use Rattle.fence.specs.declared.Fence.the-variants.{Outside, Ticks, Tildes}
 use Rattle.marker.specs.Marker.{kindOf}
 use Rattle.scan.specs.Scan.{after, kindAt}
 use Rattle.scan.specs.declared.state.State.{State}
+use Rattle.scan.specs.declared.state.OpenRegion.the-variants.{Closed}
 use Rattle.heading.specs.Walk.{stepAfter}
 use Rattle.commonmark.specs.Strip.{isShown, indent}
 use Rattle.commonmark.specs.Fenced.{Mark, backtick, tilde, CodeFence, byteOf, unindented, run, info, codeAfter}
@@ -94,3 +95,28 @@ SameFlag = (o : Option CodeFence) (st : State) (n at : ℕ) (l : List ℕ) → I
 -- what is open behind a line stays one
 abbrev pub StaysFence : Type 0
 StaysFence = (o : Option CodeFence) (l : List ℕ) → IsFence o → IsFence (codeAfter o l)
+
+-- a line on which a departure holds, and what is open behind it for us and for CommonMark
+abbrev pub Parts : (Option CodeFence → List ℕ → Bool) → Option CodeFence → List ℕ → Fence → Fence → Type 0
+Parts test o l ours theirs = (test o l ≡ true) × ((stepAfter (asFence o) false l .fence ≡ ours) × (asFence (codeAfter o l) ≡ theirs))
+
+abbrev ticks : ℕ → Option CodeFence
+ticks n = some (record { mark = backtick; length = n })
+
+-- each of them parts the two, as an opener or as a closer
+abbrev pub EachParts : Type 0
+EachParts =
+    Parts indentedByFour none (bytes "    ```") Ticks Outside
+    × (Parts indentedByFour (ticks 3) (bytes "    ```") Outside Ticks
+    × (Parts otherSpaceBefore none (0x09 ∷ bytes "~~~") Tildes Outside
+    × (Parts otherSpaceBefore (ticks 3) (0x0B ∷ bytes "```") Outside Ticks
+    × (Parts backtickInInfo none (bytes "```a`") Ticks Outside
+    × (Parts shorterCloser (ticks 4) (bytes "```") Outside Ticks
+    × Parts textAfterCloser (ticks 3) (bytes "```a") Outside Ticks)))))
+
+-- and in the scan a closer of the other kind
+abbrev pub OtherKindParts : Type 0
+OtherKindParts =
+    (otherKindCloses (ticks 3) (bytes "~~~") ≡ true)
+    × ((after (record { fence = true; region = Closed }) 2 4 (kindAt (record { fence = true; region = Closed }) 4 (bytes "~~~")) .fence ≡ false)
+    × (isOpen (codeAfter (ticks 3) (bytes "~~~")) ≡ true))
