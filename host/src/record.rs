@@ -7,6 +7,7 @@ mod record_assembly;
 mod record_book;
 mod record_fill;
 mod record_list;
+mod record_named;
 mod record_walk;
 
 use std::fs;
@@ -27,10 +28,6 @@ const MOST_OUTPUT: usize = 65_536;
 
 /// An output with room to spare for the listing of a short text.
 const AMPLE: usize = 1_000;
-
-/// The named cases of docs/DIFFERENCES.md: a name, a tab and the text in each
-/// line that is no comment.
-const DIFFERENCES: &str = include_str!("../cases/differences.txt");
 
 /// Document 01's example (K1) and its listing.
 const K1: &str = "# Stage\n\
@@ -151,39 +148,6 @@ fn add_headings(cases: &mut Cases) {
     cases.add(long.concat().as_bytes(), AMPLE);
 }
 
-fn add_differences(cases: &mut Cases) -> Option<()> {
-    for line in DIFFERENCES.lines().filter(|line| !line.starts_with('#')) {
-        let (_, text) = line.split_once('\t')?;
-        cases.add(&unescaped(text)?, AMPLE);
-    }
-    Some(())
-}
-
-/// The bytes of a text in which `\n`, `\t`, `\r`, `\\` and `\xNN` stand for one
-/// byte each, or nothing where another escape stands in it.
-fn unescaped(text: &str) -> Option<Vec<u8>> {
-    let mut from = text.bytes();
-    let mut bytes = Vec::new();
-    while let Some(byte) = from.next() {
-        bytes.push(match byte {
-            b'\\' => match from.next()? {
-                b'n' => b'\n',
-                b't' => b'\t',
-                b'r' => b'\r',
-                b'\\' => b'\\',
-                b'x' => hex_digit(from.next()?)? * 16 + hex_digit(from.next()?)?,
-                _ => return None,
-            },
-            plain => plain,
-        });
-    }
-    Some(bytes)
-}
-
-fn hex_digit(byte: u8) -> Option<u8> {
-    Some(char::from(byte).to_digit(16)? as u8)
-}
-
 /// Many rows, of each kind by itself and of all together: with exactly enough
 /// room and with one byte too little.
 fn add_many_rows(cases: &mut Cases, random: &mut Random) {
@@ -220,7 +184,7 @@ fn add_scans(examples: &str, cases: &mut Cases) {
     add_document_examples(cases);
     add_commonmark(examples, cases).expect("a list of examples");
     add_headings(cases);
-    add_differences(cases).expect("a list of named cases");
+    record_named::scans().iter().for_each(|text| cases.add(text, AMPLE));
     add_generated(cases);
 }
 

@@ -7,12 +7,14 @@ use jilgyemot_host::walking::limits::Limits;
 
 use crate::Cases;
 use crate::record_list::ListCall;
+use crate::record_named;
 use crate::record_walk::{Sample, add_generated};
 
 pub fn add_assemblies(cases: &mut Cases) {
     let call = ListCall { expected, refusals: &REFUSALS };
     call.add_checks(cases);
     call.add_examples(cases, examples());
+    call.add_ample(cases, record_named::assemblies());
     let mut sets = Sets::new(1);
     let sample = Sample { count: 70, most: 700 };
     let limited = |limits| Limits { allowance: 0, ..limits };

@@ -8,6 +8,7 @@ use jilgyemot_host::walking::expected::Expected;
 use jilgyemot_host::walking::limits::{Limits, Needs};
 
 use crate::Cases;
+use crate::record_named;
 use crate::record_walk::{self, Sample};
 
 fn expected(case: &Case) -> Expected {
@@ -50,8 +51,13 @@ fn add_generated(cases: &mut Cases) {
     record_walk::add_generated(cases, sample, || sets.next(), expected, |limits| limits);
 }
 
+fn add_named(cases: &mut Cases) {
+    record_named::fills().for_each(|case| add(cases, &case, &Limits::of(1_000, 9, 1)));
+}
+
 pub fn add_fills(cases: &mut Cases) {
     add_checks(cases);
     add_examples(cases);
+    add_named(cases);
     add_generated(cases);
 }

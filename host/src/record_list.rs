@@ -68,6 +68,14 @@ impl ListCall {
         }
     }
 
+    /// Each with room to spare.
+    pub fn add_ample(&self, cases: &mut Cases, named: impl Iterator<Item = Case>) {
+        for case in named {
+            let texts = self.expected(&case).texts;
+            self.add(cases, &case, &Limits::of(AMPLE, 0, texts));
+        }
+    }
+
     /// Every refusal has to be among the cases.
     pub fn assert_all_refused(&self, cases: &Cases) {
         let printed = String::from_utf8_lossy(&cases.stdout);
