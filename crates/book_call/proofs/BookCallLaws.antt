@@ -11,7 +11,7 @@ use Rattle.fileset.specs.declared.check.Checked.the-variants.{Passed, Refused a
 use Rattle.fileset.proofs.PassedLaws.{book-fit}
 use Rattle.index.specs.Index.{records, files}
 use Rattle.fileset.specs.Members.{names, members}
-use Rattle.walk.specs.Steps.{Steps, judge}
+use Rattle.walk.specs.Steps.{judge}
 use Rattle.walk.specs.Outcome.{Outcome, refusal, outcome}
 use Rattle.book.specs.BookWalk.{book}
 use Rattle.book.specs.Calls.{bookOutcome}
@@ -26,10 +26,9 @@ module _ (index contents list url : List ℕ) (limit out work : ℕ) (p : bookCh
       let f = book-fit index contents list url limit out work p in
       fits-more a limit out work (f .1 .0) (omega (arith, table-fits limit (length (records index)) (length (names list)) work (f .1 .1))) h
 
-  pub book-passed : (B : ℕ) {o : Outcome} {w : Steps (List ℕ)} → w ≡ book (files index contents) (members (records index) list) url → o ≡ outcome (judge B limit 0 w)
-      → o ≡ bookOutcome index contents list url limit B out work
+  pub book-passed : (B : ℕ) {o : Outcome} → o ≡ outcome (judge B limit 0 (book (files index contents) (members (records index) list) url)) → o ≡ bookOutcome index contents list url limit B out work
   unfolding bookOutcome
-  book-passed B e h = rw (p, ← e) h
+  book-passed B h = rw p h
 
 pub book-stopped : (index contents list url : List ℕ) (limit B out work : ℕ) {x : Refusal} → Stopped x ≡ bookChecked index contents list url limit out work
     → refusal x ≡ bookOutcome index contents list url limit B out work

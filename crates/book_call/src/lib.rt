@@ -26,25 +26,17 @@ fn run(
     let mut lines = [0usize; 64];
     match check::check_book(index, contents, list, url, sizes, &mut rows, &mut lines) {
         Checked::Refused(refusal) => Answer::Refused(refusal),
-        Checked::Passed => {
-            let count = fileset::members::line_count(list);
-            let records = check::record_count(index);
-            let mut set = [0usize; 704];
-            listed::put_files(&rows, &lines, count, &mut set);
-            let limit = sizes.limit;
-            book_walk::assemble_made(
-                index,
-                &rows,
-                contents,
-                url,
-                records,
-                limit,
-                allowance,
-                &mut set,
-                count,
-                work,
-            )
-        }
+        Checked::Passed => book_walk::assemble_listed(
+            index,
+            &rows,
+            &lines,
+            contents,
+            list,
+            url,
+            sizes,
+            allowance,
+            work,
+        ),
     }
 }
 
