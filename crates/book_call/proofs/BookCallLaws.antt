@@ -1,7 +1,7 @@
--- Laws of the call book: its answer by what was made and assembled, once the checks pass. Assumes nothing.
+-- Laws of the call book: its answer by the walk of the book, once the checks pass. Assumes nothing.
 use Prim.Native.Nat.{ℕ}
 use native.Mathlib.Omega.{arith}
-use mathlib.Core.Path.{_≡_, _∙_, sym, ap}
+use mathlib.Core.Path.{_≡_}
 use mathlib.Core.List.{List}
 use lib.ListN.{length}
 use Rattle.answer.specs.declared.Answer.{Answer}
@@ -9,25 +9,15 @@ use Rattle.answer.specs.declared.Refusal.{Refusal}
 use Rattle.fileset.specs.Check.{bookChecked}
 use Rattle.fileset.specs.declared.check.Checked.the-variants.{Passed, Refused as Stopped}
 use Rattle.fileset.proofs.PassedLaws.{book-fit}
-use Rattle.index.specs.Index.{File, records, files}
+use Rattle.index.specs.Index.{records, files}
 use Rattle.fileset.specs.Members.{names, members}
-use Rattle.walk.specs.Steps.{Steps, judge}
+use Rattle.walk.specs.Steps.{judge}
 use Rattle.walk.specs.Outcome.{Outcome, refusal, outcome}
-use Rattle.assembled.specs.Assemble.{assemble}
-use Rattle.assembly.specs.Parts.{readAssembled}
-use Rattle.joining.specs.declared.Assembled.{Assembled}
 use Rattle.book.specs.BookWalk.{book}
 use Rattle.book.specs.Calls.{bookOutcome}
-use Rattle.made.specs.Made.{bookOf, AreMade}
 use Rattle.made.proofs.MakingLaws.{table-fits}
-use Rattle.made.proofs.BookLaws.{book-made}
-use Rattle.give.specs.Given.{assembled, readAnswer, Fits}
-use Rattle.give.proofs.GivenLaws.{assembled-read, fits-more}
-
--- members that were made, assembled
-pub made-read : (B L : ℕ) (S hs : List File) (url : List ℕ) {fs : List File} {files : ℕ} (r : Assembled) (w : List ℕ) → AreMade B L S hs fs files
-    → ((C n : ℕ) → readAssembled n r w ≡ outcome (judge C L n (assemble url fs))) → readAnswer (assembled files r) w ≡ outcome (judge B L 0 (bookOf S hs url))
-made-read B L S hs url {fs} {files} r w a h = sym (assembled-read files r w) ∙ h B files ∙ ap outcome (sym (book-made B L S hs url a))
+use Rattle.give.specs.Given.{Fits}
+use Rattle.give.proofs.GivenLaws.{fits-more}
 
 -- once the checks pass
 module _ (index contents list url : List ℕ) (limit out work : ℕ) (p : bookChecked index contents list url limit out work ≡ Passed) where
@@ -36,10 +26,9 @@ module _ (index contents list url : List ℕ) (limit out work : ℕ) (p : bookCh
       let f = book-fit index contents list url limit out work p in
       fits-more a limit out work (f .1 .0) (omega (arith, table-fits limit (length (records index)) (length (names list)) work (f .1 .1))) h
 
-  pub book-passed : (B : ℕ) {o : Outcome} {w : Steps (List ℕ)} → w ≡ book (files index contents) (members (records index) list) url → o ≡ outcome (judge B limit 0 w)
-      → o ≡ bookOutcome index contents list url limit B out work
+  pub book-passed : (B : ℕ) {o : Outcome} → o ≡ outcome (judge B limit 0 (book (files index contents) (members (records index) list) url)) → o ≡ bookOutcome index contents list url limit B out work
   unfolding bookOutcome
-  book-passed B e h = rw (p, ← e) h
+  book-passed B h = rw p h
 
 pub book-stopped : (index contents list url : List ℕ) (limit B out work : ℕ) {x : Refusal} → Stopped x ≡ bookChecked index contents list url limit out work
     → refusal x ≡ bookOutcome index contents list url limit B out work

@@ -20,8 +20,8 @@ use Rattle.member.specs.Lines.{leftOf, CursorIn}
 use Rattle.outline.specs.Seen.{titledBy}
 use Rattle.member.specs.Passed.{Unlinked, PassedLine, PassedLines, PassedTo}
 use Rattle.member.specs.declared.lines.LineCursor.{LineCursor}
-use Rattle.emission.specs.Emission.{breakBefore, blockText}
-use Rattle.emission.proofs.EmittedLaws.{leftText, newLine, text-next}
+use Rattle.emitted.specs.Emitted.{breakBefore, blockText}
+use Rattle.emission.proofs.LeftLaws.{leftText, newLine, text-next}
 
 -- the byte that a search finds
 first-is : (f : ℕ → Bool) (s : List ℕ) → first f s < length s → f (getD s (first f s) 0) ≡ true

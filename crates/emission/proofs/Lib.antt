@@ -1,5 +1,4 @@
-pub mod LineLaws
-pub mod EmittedLaws
+pub mod LeftLaws
 pub mod BlockLaws
 pub mod PuttingLaws
 pub mod EmitLaws

@@ -1,7 +1,7 @@
--- Laws of a member's lines put one after the other: what stands before a line and then the line, lines put as a block, and all. Assumes nothing.
+-- Laws of a member's lines put one after the other: a line, lines put as a block, and all. Assumes nothing.
 use Prim.Native.Nat.{ℕ, suc, _+_, _-_, _≤_, _<_}
 use native.Mathlib.Omega.{arith}
-use mathlib.Core.Path.{_≡_, refl, sym, ap, subst, _∙_}
+use mathlib.Core.Path.{_≡_, sym, ap, subst, _∙_}
 use mathlib.Core.Bool.{Bool, true, false}
 use mathlib.Core.List.{List, [], _++_, append-assoc}
 use lib.IntN.{ℤ}
@@ -9,35 +9,21 @@ use lib.ListN.{length}
 use Rattle.text.specs.Bytes.{part}
 use Rattle.text.proofs.BytesLaws.{part-full}
 use Rattle.heading.specs.declared.walk.LineKind.{LineKind}
-use Rattle.put.specs.Put.{sourceText, Able, Written, Wrote}
+use Rattle.put.specs.Put.{sourceText, Able, Written}
 use Rattle.put.specs.NewText.{KindIn}
 use Rattle.put.specs.declared.Source.{Source}
 use Rattle.put.specs.declared.Room.{Room}
-use Rattle.put.specs.declared.Put.{Put}
 use Rattle.put.proofs.NewTextLaws.{kind-in}
-use Rattle.put.proofs.PutLaws.{Reached, roomAt, reached-start, reached-next, reached-over, reached-last, reached-end, source-length, source-same}
+use Rattle.put.proofs.PutLaws.{Reached, roomAt, reached-start, reached-next, reached-over, reached-end, source-length, source-same}
 use Rattle.member.specs.Lines.{leftOf, atFirst, CursorIn, IsLine}
 use Rattle.member.specs.Passed.{PassedTo}
 use Rattle.outline.specs.Seen.{titledBy, movedKind}
 use Rattle.member.specs.declared.lines.LineCursor.{LineCursor}
 use Rattle.member.proofs.LinesLaws.{lines-on}
-use Rattle.emission.specs.Emission.{emittedLine, emittedText, breakBefore, blockText}
-use Rattle.emission.proofs.EmittedLaws.{kind-kept, leftText, text-next, text-none}
+use Rattle.emitted.specs.Emitted.{emittedLine, breakBefore, blockText}
+use Rattle.emission.specs.Emission.{emittedText}
+use Rattle.emission.proofs.LeftLaws.{kind-kept, leftText, text-next, text-none}
 use Rattle.emission.proofs.BlockLaws.{Block, block}
-
--- what stands before x is put, where n lines stand before it; and then x
-module _ {room : Room} (w : List ℕ) (below : room .at ≤ room .limit) (n : ℕ) (x : List ℕ) where
-  before : Reached room (breakBefore n ++ x) w w (room .at) (breakBefore n ++ x)
-  before = reached-start room (breakBefore n ++ x) w below
-
-  pub break-over : room .limit < room .at + length (breakBefore n) → room .limit < room .at + length (breakBefore n ++ x)
-  break-over h = reached-over before (breakBefore n) x refl h
-
-  pub broken : (v : List ℕ) (k : ℕ) → Written room (breakBefore n) w v k → Reached room (breakBefore n ++ x) w v k x
-  broken v k q = reached-next before (breakBefore n) x refl v k q
-
-  pub broken-put : {y : List ℕ} (v : List ℕ) (k : ℕ) → Written room (breakBefore n) w v k → y ≡ x → (u : List ℕ) (r : Put) → Wrote (roomAt room k) y v u r → Wrote room (breakBefore n ++ x) w u r
-  broken-put v k q e u r h = reached-last (broken v k q) u r (subst (λ (t : List ℕ). Wrote (roomAt room k) t v u r) e h)
 
 -- the lines before a cursor are put
 pub record Putting (f : List ℕ → List ℕ) (z : ℤ) (source : Source) (room : Room) (c w v : List ℕ) (at : ℕ) (d : LineCursor) (titled : Bool) : Type 0 where

@@ -1,39 +1,16 @@
 -- A member's lines as they are put. Nothing here is document 01's: functions promise it, and the laws of `proofs/` tie it to what is emitted.
-use Prim.Native.Nat.{ℕ, zero, suc, _-_}
-use mathlib.Core.Bool.{cond}
-use mathlib.Core.List.{List, [], _∷_, _++_, map}
-use lib.Dec.{leb}
+use Prim.Native.Nat.{ℕ}
+use mathlib.Core.List.{List, map}
 use lib.IntN.{ℤ}
-use Rattle.text.specs.Bytes.{part}
 use Rattle.text.specs.Lines.{LF}
 use Rattle.text.specs.Split.{join}
-use Rattle.heading.specs.Level.{headingLine}
-use Rattle.shift.specs.Shift.{Told, movedLine}
 use Rattle.member.specs.Member.{movable}
 use Rattle.member.specs.Lines.{keptLines}
-use Rattle.member.specs.declared.lines.LineCursor.{LineCursor}
-use Rattle.emission.specs.Emit.{rewriteLine}
+use Rattle.emitted.specs.Emitted.{emittedLine}
 
--- what a line becomes, each link's target t being f t; and the lines that a member keeps, the first H1 being no heading to be moved
-abbrev pub emittedLine : (List ℕ → List ℕ) → ℤ → Told → List ℕ
-emittedLine f z t = rewriteLine f (t .kind) (movedLine z t)
-
+-- the lines that a member keeps, the first H1 being no heading to be moved, each link's target t being f t
 abbrev pub emittedLines : (List ℕ → List ℕ) → ℤ → List ℕ → List (List ℕ)
 emittedLines f z s = map (emittedLine f z) (movable (keptLines s))
 
 abbrev pub emittedText : (List ℕ → List ℕ) → ℤ → List ℕ → List ℕ
 emittedText f z s = join LF (emittedLines f z s)
-
--- what stands before a line that has n lines before it
-abbrev pub breakBefore : ℕ → List ℕ
-breakBefore zero = []
-breakBefore (suc n) = LF ∷ []
-
--- what stands before the text of a line of a level: a heading's hashes and space, or nothing
-abbrev pub levelOf : ℕ → List ℕ
-levelOf zero = []
-levelOf (suc n) = headingLine (suc n) []
-
--- the lines between two cursors as they stand in s, with what stands before them
-abbrev pub blockText : List ℕ → LineCursor → LineCursor → List ℕ
-blockText s c d = cond (leb (d .line) (c .line)) [] (breakBefore (c .line) ++ part (c .at) (d .at - 1) s)

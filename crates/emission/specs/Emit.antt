@@ -5,20 +5,12 @@ use mathlib.Core.Option.{Option}
 use Rattle.answer.specs.Answer.{place}
 use Rattle.answer.specs.declared.Refusal.the-variants.{HeadingLevel}
 use Rattle.text.specs.Pattern.{bytes}
-use Rattle.heading.specs.declared.walk.LineKind.{LineKind}
-use Rattle.heading.specs.declared.walk.LineKind.the-variants.{Quoted, Heading, Other}
 use Rattle.path.specs.Path.{parentDir}
-use Rattle.link.specs.Links.{relink}
 use Rattle.link.specs.Target.{rewriteTarget}
 use Rattle.walk.specs.Parts.{Part, unless}
 use Rattle.shift.specs.Shift.{kindsOf, shiftFor, movedLine, pastFrom}
 use Rattle.member.specs.Member.{Prepared, movable}
-
--- "links outside fences rewritten as `rewrite_links`"
-abbrev pub rewriteLine : (List ℕ → List ℕ) → LineKind → List ℕ → List ℕ
-rewriteLine f Quoted l = l
-rewriteLine f (Heading n a e) l = relink f l
-rewriteLine f Other l = relink f l
+use Rattle.emitted.specs.Line.{rewriteLine}
 
 -- "shifted to 2, title excepted (16)"; "Here 16, 18 and 19 stand at the member; lines count its prepared lines."
 unfoldable pub emit : (List ℕ → Option (List ℕ)) → List ℕ → Prepared → Part (List (List ℕ))

@@ -10,66 +10,54 @@ use stored::case::Starts;
 // The loop over the cases has to end, and nothing says that the input does.
 const MOST_CASES: usize = 100_000;
 
-// Makes a book of what is handed in and prints the answer.
+// Makes a book of what is handed in, as a C caller does, and prints the answer.
 fn book_given(given: &[u8], at: Starts, limits: Limits, out: &mut [u8], work: &mut [u8])
-    requires { ⌜ (at .contents ≤ at .third) × ((at .third ≤ at .fourth) × (at .fourth ≤ length (now given))) ⌝ }
+    requires { ⌜ (at .contents ≤ at .third) × ((at .third ≤ at .fourth) × ((at .fourth ≤ length (now given)) × (limits .allowance ≤ 999999))) ⌝ }
 {
     let contents = at.contents;
     let list = at.third;
     let url = at.fourth;
-    let a = book_call::book(
+    let mut numbers = [0u64; 6];
+    jilgyemot::jilgyemot_book(
         &given[..contents],
         &given[contents..list],
         &given[list..url],
         &given[url..],
-        limits.limit,
-        limits.allowance,
+        limits.limit as u64,
+        limits.allowance as u32,
         out,
         work,
+        &mut numbers,
     );
-    case::print_answer(a, out);
+    case::print_numbers(numbers, out);
 }
 
-// Reads what is handed in and makes a book of it. Answers whether all of it was there.
-fn replay_given(
-    given: &mut [u8],
-    at: Starts,
-    limits: Limits,
-    out: &mut [u8],
-    work: &mut [u8],
-) -> bool
-    requires { ⌜ (at .contents ≤ at .third) × ((at .third ≤ at .fourth) × (at .fourth ≤ length (now given))) ⌝ }
-{
-    if !case::read_given(given) {
-        return false;
-    }
-    book_given(given, at, limits, out, work);
-    true
-}
-
-// A case in buffers of zeros.
-fn replay_case(at: Starts, limits: Limits) -> bool
-    requires { ⌜ Small at limits ⌝ }
+// A case, with an output and a work buffer of zeros.
+fn replay_case(given: &[u8], at: Starts, limits: Limits)
+    requires { ⌜ Small at limits × (16384 ≤ length (now given)) ⌝ }
 {
     let end = at.end;
     let room = limits.out;
     let size = limits.work;
-    let mut given = case::given_buffer();
     let mut out = io::large_buffer();
     let mut work = io::large_buffer();
-    replay_given(
-        &mut given[..end],
+    book_given(
+        &given[..end],
         at,
         limits,
         &mut out[..room],
         &mut work[..size],
-    )
+    );
 }
 
 // Answers whether to go on: not at the input's end or after an ill-formed case.
 fn replay_next() -> bool {
-    match case::next_case() {
-        NextCase::Handed { at, limits } => replay_case(at, limits),
+    let mut given = case::given_buffer();
+    match case::read_case(&mut given) {
+        NextCase::Handed { at, limits } => {
+            replay_case(&given, at, limits);
+            true
+        }
         NextCase::Nothing => false,
     }
 }

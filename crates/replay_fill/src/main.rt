@@ -30,46 +30,32 @@ fn fill_given(given: &[u8], at: Starts, limits: Limits, out: &mut [u8], work: &m
     case::print_answer(a, out);
 }
 
-// Reads what is handed in and fills it. Answers whether all of it was there.
-fn replay_given(
-    given: &mut [u8],
-    at: Starts,
-    limits: Limits,
-    out: &mut [u8],
-    work: &mut [u8],
-) -> bool
-    requires { ⌜ (at .contents ≤ at .third) × ((at .third ≤ at .fourth) × (at .fourth ≤ length (now given))) ⌝ }
-{
-    if !case::read_given(given) {
-        return false;
-    }
-    fill_given(given, at, limits, out, work);
-    true
-}
-
-// A case in buffers of zeros.
-fn replay_case(at: Starts, limits: Limits) -> bool
-    requires { ⌜ Small at limits ⌝ }
+// A case, with an output and a work buffer of zeros.
+fn replay_case(given: &[u8], at: Starts, limits: Limits)
+    requires { ⌜ Small at limits × (16384 ≤ length (now given)) ⌝ }
 {
     let end = at.end;
     let room = limits.out;
     let size = limits.work;
-    let mut given = case::given_buffer();
     let mut out = io::large_buffer();
     let mut work = io::large_buffer();
-    replay_given(
-        &mut given[..end],
+    fill_given(
+        &given[..end],
         at,
         limits,
         &mut out[..room],
         &mut work[..size],
-    )
+    );
 }
 
 // Answers whether to go on: not at the input's end or after an ill-formed case.
 fn replay_next() -> bool {
-    match case::next_case() {
-        NextCase::Handed { at, limits } => replay_case(at, limits),
+    let mut given = case::given_buffer();
+    match case::read_case(&mut given) {
+        NextCase::Handed { at, limits } => {
+            replay_case(&given, at, limits);
+            true
+        }
         NextCase::Nothing => false,
     }
 }

@@ -17,6 +17,7 @@ pub record Small (at : Starts) (limits : Limits) : Type 0 where
   pub end : at .end ≤ 16384
   pub out : limits .out ≤ 65536
   pub work : limits .work ≤ 65536
+  pub allowance : limits .allowance ≤ 999999
 
 abbrev pub SmallCase : NextCase → Type 0
 SmallCase (Handed at limits) = Small at limits

@@ -1,5 +1,6 @@
 // A stored case of a call with a walk: index, contents and two more texts, the limits, and the sizes of output and work.
 ghost use mathlib.Core.Path.{_≡_};
+ghost use Prim.Native.Nat.{_≤_};
 ghost use lib.ListN.{length};
 ghost use Rattle.stored.specs.Case.{InOrder, Small, SmallCase};
 use crate::header;
@@ -14,6 +15,9 @@ const MOST_GIVEN: usize = 16_384;
 
 // An output, or a work buffer.
 const MOST_ROOM: usize = 65_536;
+
+// Six digits, as many as a header has for it.
+const MOST_ALLOWANCE: usize = 999_999;
 
 // Where contents, third and fourth text start in what is handed in, and where that ends.
 pub struct Starts {
@@ -51,7 +55,7 @@ pub fn given_buffer() -> [u8; 16384]
 }
 
 // Reads what is handed in, and answers whether all of it was there.
-pub fn read_given(given: &mut [u8]) -> bool {
+fn read_given(given: &mut [u8]) -> bool {
     let n = io::read_full(STDIN_FILENO, given);
     if n < given.len() {
         crate::print_ill_formed();
@@ -60,15 +64,20 @@ pub fn read_given(given: &mut [u8]) -> bool {
     true
 }
 
-// Prints an answer, and its text and LF where there is one.
-pub fn print_answer(a: Answer, out: &[u8]) {
-    print::numbers(answer::numbers(a));
-    if let Answer::Accepted { length, files: _ } = a {
+// Prints the six numbers of an answer, and its text and LF where there is one.
+pub fn print_numbers(numbers: [u64; 6], out: &[u8]) {
+    print::numbers(numbers);
+    if numbers[0] == 0 {
+        let length = numbers[1] as usize;
         if length <= out.len() {
             io::write_all(STDOUT_FILENO, &out[..length]);
             io::write_all(STDOUT_FILENO, b"\n");
         }
     }
+}
+
+pub fn print_answer(a: Answer, out: &[u8]) {
+    print_numbers(answer::numbers(a), out);
 }
 
 // Past all memory.
@@ -121,11 +130,14 @@ fn small_case(at: Starts, limits: Limits) -> NextCase
     if MOST_ROOM < limits.work {
         return ill_formed();
     }
+    if MOST_ALLOWANCE < limits.allowance {
+        return ill_formed();
+    }
     NextCase::Handed { at, limits }
 }
 
 // Reads four headers.
-pub fn next_case() -> NextCase
+fn next_case() -> NextCase
     ensures { λ r. ⌜ SmallCase r ⌝ }
 {
     let mut bytes = [0u8; 56];
@@ -152,4 +164,19 @@ pub fn next_case() -> NextCase
         work,
     };
     small_case(starts_of(index, contents, third, fourth), limits)
+}
+
+// Reads a case: its headers, and what is handed in, to the front of a buffer.
+pub fn read_case(given: &mut [u8]) -> NextCase
+    requires { ⌜ 16384 ≤ length (now given) ⌝ }
+    ensures { λ r. ⌜ SmallCase r ⌝ }
+{
+    let NextCase::Handed { at, limits } = next_case() else {
+        return NextCase::Nothing;
+    };
+    let end = at.end;
+    if !read_given(&mut given[..end]) {
+        return NextCase::Nothing;
+    }
+    NextCase::Handed { at, limits }
 }

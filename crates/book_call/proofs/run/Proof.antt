@@ -1,12 +1,8 @@
 -- `run` meets its contract: refused by the checks, or made. Assumes nothing.
-use native.Mathlib.Omega.{arith}
-use mathlib.Core.Path.{_≡_, refl, sym, _∙_}
+use mathlib.Core.Path.{_≡_, sym, _∙_}
 use Rattle.index.specs.Index.{records}
 use Rattle.fileset.specs.Check.{bookChecked, Passes, Listed}
 use Rattle.fileset.specs.declared.check.Checked.the-variants.{Passed}
-use Rattle.fileset.proofs.PassedLaws.{book-fit}
-use Rattle.listed.proofs.FilesLaws.{are-listed}
-use Rattle.made.proofs.ReadyLaws.{can-make, book-same}
 use Rattle.book_call.proofs.BookCallLaws.{book-held, book-passed, book-stopped}
 use borrow.Author.Needs.{needs}
 use Rattle.book_call.proofs.run.Statement.{statement}
@@ -21,12 +17,6 @@ enum-known-refusal c = search needs
 enum-told : tie.Need-enum-told
 enum-told c = search needs
 
-line-count-requires : tie.Need-line-count-requires
-line-count-requires c κs = search needs
-
-record-count-requires : tie.Need-record-count-requires
-record-count-requires c κs = search needs
-
 -- the checks passed, and what they tell of index and list
 passed : (c : tie.After-enum-told) → let a = c .before .before .before .before .before .before .before .before .before .before .args in
     bookChecked (a .index .now) (a .contents .now) (a .list .now) (a .url .now) (a .sizes .limit) (a .sizes .output) (a .sizes .work) ≡ Passed
@@ -40,13 +30,8 @@ listed : (c : tie.After-enum-told) → let a = c .before .before .before .before
     Listed (records (a .index .now)) (a .list .now) (c .before .before .check-book .last .1 .1 .1 .1 .1 .1 .0) Passed
 listed c = rw (c .enum-told .given .1) at (c .before .before .check-book .ensures .1 .1)
 
-put-files-requires : tie.Need-put-files-requires
-put-files-requires c κs = let a = c .before .before .before .before .before .before .before .before .before .before .before .before .before .before .before .args in let k = c .before .before .before .before .before .before .before .check-book .last .1 .1 .1 .1 .1 in let n = c .before .before .before .before .line-count in
-    (refl, are-listed (a .index .now) (a .contents .now) (a .list .now) (a .url .now) (k .0) (k .1 .0) (a .sizes .limit) (a .sizes .output) (a .sizes .work) (n .result) (passed (c .before .before .before .before .before)) (told (c .before .before .before .before .before)) (listed (c .before .before .before .before .before)) (n .ensures) (omega (arith, c .before .before .before .before .before .before .before .before .before .before .before .before .before .before .before .good .1 .0 .0)))
-
-assemble-made-requires : tie.Need-assemble-made-requires
-assemble-made-requires c κs = let a = c .before .before .before .before .before .before .before .before .before .before .before .before .before .before .before .before .before .before .before .args in let k = c .before .before .before .before .before .before .before .before .before .before .before .check-book .last .1 .1 .1 .1 .1 in let n = c .before .before .before .before .before .before .before .before .line-count in let m = c .before .before .before .before .before .before .before .record-count in
-    (rw (← c .before .before .before .before .before .before .before .before .before .before .before .before .before .before .before .before .before .before .before .pre) (can-make (a .index .now) (a .contents .now) (a .list .now) (a .url .now) (k .0) (k .1 .0) (a .sizes .limit) (a .sizes .output) (a .sizes .work) (n .result) (m .result) (passed (c .before .before .before .before .before .before .before .before .before)) (told (c .before .before .before .before .before .before .before .before .before)) (listed (c .before .before .before .before .before .before .before .before .before)) (n .ensures) (m .ensures) (c .before .before .before .put-files .ensures)), book-fit (a .index .now) (a .contents .now) (a .list .now) (a .url .now) (a .sizes .limit) (a .sizes .output) (a .sizes .work) (passed (c .before .before .before .before .before .before .before .before .before)) .0)
+assemble-listed-requires : tie.Need-assemble-listed-requires
+assemble-listed-requires c κs = let t = c .before .before .before in (passed t, (told t, (listed t, c .before .before .before .before .before .before .before .before .before .before .before .before .before .pre)))
 
 returns : tie.Need-returns
 returns c = let a = c .before .before .before .before .before .before .before .before .before .before .before .args in
@@ -56,9 +41,8 @@ same-length : tie.Need-same-length
 same-length c = search needs
 
 returns-2 : tie.Need-returns-2
-returns-2 c = let a = c .before .before .before .before .before .before .before .before .before .before .before .before .before .before .before .before .before .before .before .before .before .before .args in let k = c .before .before .before .before .before .before .before .before .before .before .before .before .before .before .check-book .last .1 .1 .1 .1 .1 in let n = c .before .before .before .before .before .before .before .before .before .before .before .line-count in let m = c .before .before .before .before .before .before .before .before .before .before .record-count in let f = c .before .before .assemble-made in
-    let s = book-same (a .index .now) (a .contents .now) (a .list .now) (a .url .now) (k .0) (k .1 .0) (a .sizes .limit) (a .sizes .output) (a .sizes .work) (n .result) (m .result) (passed (c .before .before .before .before .before .before .before .before .before .before .before .before)) (told (c .before .before .before .before .before .before .before .before .before .before .before .before)) (listed (c .before .before .before .before .before .before .before .before .before .before .before .before)) (n .ensures) (m .ensures) (c .before .before .before .before .before .before .put-files .ensures) (a .work .now) in
-    (book-passed (a .index .now) (a .contents .now) (a .list .now) (a .url .now) (a .sizes .limit) (a .sizes .output) (a .sizes .work) (passed (c .before .before .before .before .before .before .before .before .before .before .before .before)) (a .allowance) s (f .ensures .0), book-held (a .index .now) (a .contents .now) (a .list .now) (a .url .now) (a .sizes .limit) (a .sizes .output) (a .sizes .work) (passed (c .before .before .before .before .before .before .before .before .before .before .before .before)) (f .result) (f .ensures .1))
+returns-2 c = let a = c .before .before .before .before .before .before .before .before .before .before .before .before .before .before .before .before .args in let t = c .before .before .before .before .before .before in let f = c .before .before .assemble-listed in
+    (book-passed (a .index .now) (a .contents .now) (a .list .now) (a .url .now) (a .sizes .limit) (a .sizes .output) (a .sizes .work) (passed t) (a .allowance) (f .ensures .0), book-held (a .index .now) (a .contents .now) (a .list .now) (a .url .now) (a .sizes .limit) (a .sizes .output) (a .sizes .work) (passed t) (f .result) (f .ensures .1))
 
 pub run-spec : {M : Type 1} → statement M
 run-spec =
@@ -67,10 +51,7 @@ run-spec =
     check-book-requires
     enum-known-refusal
     enum-told
-    line-count-requires
-    record-count-requires
-    put-files-requires
-    assemble-made-requires
+    assemble-listed-requires
     returns
     same-length
     returns-2)

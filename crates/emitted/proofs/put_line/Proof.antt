@@ -1,12 +1,12 @@
--- `emission::put_line` meets its contract. Assumes nothing.
+-- `emitted::put_line` meets its contract. Assumes nothing.
 use Rattle.heading.proofs.LevelLaws.{shift-kept}
 use Rattle.link.specs.Target.{rewriteTarget}
 use Rattle.target.specs.Titles.{titlesIn}
 use Rattle.rewrite.proofs.LinkedLaws.{all-on, rewriting-same}
-use Rattle.emission.proofs.EmittedLaws.{open-line, new-level, new-order, new-end, new-over, new-able, new-reached, new-put}
+use Rattle.emitted.proofs.EmittedLaws.{open-line, new-level, new-order, new-end, new-over, new-able, new-reached, new-put}
 use borrow.Author.Needs.{needs}
-use Rattle.emission.proofs.put_line.Statement.{statement}
-use Rattle.emission.proofs.put_line.Tie as tie
+use Rattle.emitted.proofs.put_line.Statement.{statement}
+use Rattle.emitted.proofs.put_line.Tie as tie
 
 enum-told : tie.Need-enum-told
 enum-told c = search needs

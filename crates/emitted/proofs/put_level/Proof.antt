@@ -1,12 +1,12 @@
--- `emission::put_level` meets its contract. Assumes nothing.
+-- `emitted::put_level` meets its contract. Assumes nothing.
 use mathlib.Core.Path.{sym, subst}
 use mathlib.Core.List.{List}
 use Prim.Native.Nat.{ℕ}
 use Rattle.put.specs.Put.{Wrote}
-use Rattle.emission.proofs.LineLaws.{level-none, level-some}
+use Rattle.emitted.proofs.LineLaws.{level-none, level-some}
 use borrow.Author.Needs.{needs}
-use Rattle.emission.proofs.put_level.Statement.{statement}
-use Rattle.emission.proofs.put_level.Tie as tie
+use Rattle.emitted.proofs.put_level.Statement.{statement}
+use Rattle.emitted.proofs.put_level.Tie as tie
 
 returns : tie.Need-returns
 returns c = level-none (c .before .before .args .room) (c .before .before .args .work .now) (c .before .before .args .level) (c .if1 .taken) (c .before .before .pre .1 .0)

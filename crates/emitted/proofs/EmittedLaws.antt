@@ -1,19 +1,13 @@
--- Laws of `specs/Emission.antt`: what a line becomes, and a member's lines one after the other. Assumes nothing.
+-- Laws of `specs/Emitted.antt`: what a line becomes, by what stands before its text and by its text. Assumes nothing.
 use Prim.Native.Nat.{ℕ, zero, suc, _+_, _-_, _≤_, _<_}
-use native.Mathlib.Numerals.{add-one}
 use native.Mathlib.Omega.{arith}
 use mathlib.Core.Path.{_≡_, refl, sym, ap, subst, _∙_}
-use mathlib.Core.Bool.{Bool, true, false, cond}
-use mathlib.Core.List.{List, [], _∷_, _++_, map}
+use mathlib.Core.List.{List, [], _∷_, _++_}
 use denote.Enum.Declared.{tagOf}
 use types.Run.{OneOf, miss}
-use lib.Dec.{eqb}
 use lib.IntN.{ℤ, pos, _+ℤ_}
 use lib.ListN.{length}
 use Rattle.text.specs.Bytes.{part}
-use Rattle.text.specs.Lines.{LF, led}
-use Rattle.text.specs.Split.{join}
-use Rattle.text.proofs.LedLaws.{join-led}
 use Rattle.heading.specs.Level.{movedTo}
 use Rattle.heading.specs.declared.level.Moved.{Moved}
 use Rattle.heading.specs.declared.level.Moved.the-variants.{To, Past}
@@ -22,7 +16,7 @@ use Rattle.heading.specs.declared.walk.LineKind.the-variants.{Quoted, Heading, 
 use Rattle.heading.proofs.walk.LineKind.{the-type}
 use Rattle.heading.proofs.LevelLaws.{moved-level}
 use Rattle.link.specs.Links.{relink}
-use Rattle.shift.specs.Shift.{Told, atLevel}
+use Rattle.shift.specs.Shift.{atLevel}
 use Rattle.put.specs.Put.{sourceText, partOf, Able, Written, Wrote}
 use Rattle.put.specs.NewText.{newTextAt, newTextOf, KindIn}
 use Rattle.put.specs.declared.Source.{Source}
@@ -32,10 +26,8 @@ use Rattle.put.specs.declared.line.NewText.{NewText}
 use Rattle.text.proofs.PartLaws.{part-part}
 use Rattle.put.proofs.NewTextLaws.{heading-linked, TextIn, text-in}
 use Rattle.put.proofs.PutLaws.{Reached, roomAt}
-use Rattle.member.specs.Member.{movable}
-use Rattle.outline.specs.Seen.{titledBy, movedKind}
-use Rattle.emission.proofs.LineLaws.{level-over, level-put, text-able, text-put}
-use Rattle.emission.specs.Emission.{emittedLine, breakBefore, levelOf}
+use Rattle.emitted.proofs.LineLaws.{level-over, level-put, text-able, text-put}
+use Rattle.emitted.specs.Emitted.{emittedLine, levelOf}
 
 -- a line that is not quoted, by what stands before its text and by its text
 abbrev pub Open : LineKind → Type 0
@@ -98,55 +90,3 @@ pub open-line : (k : LineKind) → OneOf (1 ∷ 2 ∷ []) (tagOf the-type k) →
 open-line Quoted h = miss (1 ∷ 2 ∷ []) 0 tt h
 open-line (Heading n a e) h = tt
 open-line Other h = tt
-
--- what a line is has its places in the line
-pub kind-kept : (n : ℕ) (titled : Bool) (k : LineKind) → KindIn n k → KindIn n (movedKind titled k)
-kind-kept n titled Quoted w = tt
-kind-kept n true (Heading m a e) w = w
-kind-kept n false (Heading m a e) w = go (eqb m 1)
-  where
-    go : (b : Bool) → KindIn n (cond b Other (Heading m a e))
-    go true = tt
-    go false = w
-kind-kept n titled Other w = tt
-
--- lines that are left, where the title stands before them or not, and n lines stand before them
-module _ (f : List ℕ → List ℕ) (z : ℤ) where
-  abbrev leftLines : Bool → List Told → List (List ℕ)
-  leftLines titled ts = map (emittedLine f z) (cond titled ts (movable ts))
-
-  abbrev pub leftText : ℕ → Bool → List Told → List ℕ
-  leftText zero titled ts = join LF (leftLines titled ts)
-  leftText (suc n) titled ts = led (leftLines titled ts)
-
-  abbrev pub newLine : Bool → Told → List ℕ
-  newLine titled t = emittedLine f z (record { kind = movedKind titled (t .kind); bytes = t .bytes })
-
-  lines-next : (titled : Bool) (t : Told) (ts : List Told) → leftLines titled (t ∷ ts) ≡ newLine titled t ∷ leftLines (titledBy titled (t .kind)) ts
-  unfolding movable
-  lines-next titled t ts = by titled (t .kind) refl
-    where
-      by : (b : Bool) (k : LineKind) → t .kind ≡ k → leftLines b (t ∷ ts) ≡ emittedLine f z (record { kind = movedKind b k; bytes = t .bytes }) ∷ leftLines (titledBy b k) ts
-      by true Quoted e = rw e
-      by true (Heading n x y) e = rw e
-      by true Other e = rw e
-      by false Quoted e = rw e
-      by false (Heading n x y) e = title (eqb n 1) refl
-        where
-          title : (b : Bool) → eqb n 1 ≡ b → leftLines false (t ∷ ts) ≡ emittedLine f z (record { kind = cond b Other (Heading n x y); bytes = t .bytes }) ∷ leftLines b ts
-          title true q = rw (e, q)
-          title false q = rw (e, q)
-      by false Other e = rw e
-
-  pub text-next : (n : ℕ) (titled : Bool) (t : Told) (ts : List Told)
-      → leftText n titled (t ∷ ts) ≡ breakBefore n ++ (newLine titled t ++ leftText (n + 1) (titledBy titled (t .kind)) ts)
-  unfolding led
-  text-next zero titled t ts = ap (join LF) (lines-next titled t ts) ∙ join-led (newLine titled t) (leftLines (titledBy titled (t .kind)) ts)
-  text-next (suc n) titled t ts = ap led (lines-next titled t ts) ∙ rw (add-one (suc n))
-
-  pub text-none : (n : ℕ) (titled : Bool) → leftText n titled [] ≡ []
-  unfolding led join movable
-  text-none zero true = refl
-  text-none zero false = refl
-  text-none (suc n) true = refl
-  text-none (suc n) false = refl

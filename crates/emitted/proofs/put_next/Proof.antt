@@ -1,4 +1,4 @@
--- `emission::put_next` meets its contract: what stands before the line, and then the line. Assumes nothing.
+-- `emitted::put_next` meets its contract: what stands before the line, and then the line. Assumes nothing.
 use Prim.Native.Nat.{ℕ}
 use mathlib.Core.List.{List}
 use lib.IntN.{ℤ}
@@ -9,12 +9,12 @@ use Rattle.link.specs.Target.{rewriteTarget}
 use Rattle.put.specs.Put.{sourceText}
 use Rattle.put.proofs.PutLaws.{able-on, source-same}
 use Rattle.target.specs.Titles.{titlesIn}
-use Rattle.emission.specs.Emission.{emittedLine}
+use Rattle.emitted.specs.Emitted.{emittedLine}
 use Rattle.rewrite.proofs.LinkedLaws.{all-on, rewriting-same}
-use Rattle.emission.proofs.PuttingLaws.{break-over, broken, broken-put}
+use Rattle.emitted.proofs.BreakLaws.{break-over, broken, broken-put}
 use borrow.Author.Needs.{needs}
-use Rattle.emission.proofs.put_next.Statement.{statement}
-use Rattle.emission.proofs.put_next.Tie as tie
+use Rattle.emitted.proofs.put_next.Statement.{statement}
+use Rattle.emitted.proofs.put_next.Tie as tie
 
 put-break-requires : tie.Need-put-break-requires
 put-break-requires c κs = search needs

@@ -13,10 +13,10 @@ use Rattle.made.specs.Made.{judgedAll, AreMade}
 use Rattle.made.proofs.MakingLaws.{slot-le, table-fits}
 use Rattle.made.proofs.BookLaws.{book-stopped}
 use Rattle.give.proofs.GivenLaws.{assembled-fits}
-use Rattle.book_call.proofs.BookCallLaws.{made-read}
+use Rattle.book_walk.proofs.BookWalkLaws.{made-read}
 use borrow.Author.Needs.{needs}
-use Rattle.book_call.proofs.assemble_made.Statement.{statement}
-use Rattle.book_call.proofs.assemble_made.Tie as tie
+use Rattle.book_walk.proofs.assemble_made.Statement.{statement}
+use Rattle.book_walk.proofs.assemble_made.Tie as tie
 
 put-made-requires : tie.Need-put-made-requires
 put-made-requires c κs = search needs

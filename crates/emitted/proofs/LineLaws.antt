@@ -13,7 +13,7 @@ use Rattle.put.specs.declared.Source.{Source}
 use Rattle.put.specs.declared.Room.{Room}
 use Rattle.put.specs.declared.Put.{Put}
 use Rattle.put.proofs.PutLaws.{Reached, roomAt, reached-start, reached-next, reached-over, reached-last, part-same, able-part, able-on}
-use Rattle.emission.specs.Emission.{breakBefore, levelOf}
+use Rattle.emitted.specs.Emitted.{breakBefore, levelOf}
 
 -- a heading's hashes and space are put, or nothing, and then the text of the line with its links
 module _ {source : Source} {room : Room} {c w : List ℕ} (able : Able source room c w) (f : List ℕ → List ℕ) (n a e : ℕ) where

@@ -1,9 +1,9 @@
--- `emission::put_break` meets its contract. Assumes nothing.
+-- `emitted::put_break` meets its contract. Assumes nothing.
 use native.Mathlib.Omega.{arith}
-use Rattle.emission.proofs.LineLaws.{break-none, break-full, break-put}
+use Rattle.emitted.proofs.LineLaws.{break-none, break-full, break-put}
 use borrow.Author.Needs.{needs}
-use Rattle.emission.proofs.put_break.Statement.{statement}
-use Rattle.emission.proofs.put_break.Tie as tie
+use Rattle.emitted.proofs.put_break.Statement.{statement}
+use Rattle.emitted.proofs.put_break.Tie as tie
 
 returns : tie.Need-returns
 returns c = break-none (c .before .args .room) (c .before .args .work .now) (c .before .args .n) (c .if1 .taken) (c .before .pre .0)

@@ -1,4 +1,4 @@
--- `emission::put_block` meets its contract: what stands before the block, and then the block. Assumes nothing.
+-- `emitted::put_block` meets its contract: what stands before the block, and then the block. Assumes nothing.
 use native.Mathlib.Omega.{arith}
 use mathlib.Core.Path.{ap}
 use Prim.Native.Nat.{_-_, _<_}
@@ -6,11 +6,11 @@ use borrow.Author.Tests.{le-leb, lt-leb}
 use Rattle.text.specs.Bytes.{part}
 use Rattle.put.specs.Put.{sourceText}
 use Rattle.put.proofs.PutLaws.{able-on, source-same}
-use Rattle.emission.proofs.LineLaws.{nothing-put}
-use Rattle.emission.proofs.PuttingLaws.{break-over, broken, broken-put}
+use Rattle.emitted.proofs.LineLaws.{nothing-put}
+use Rattle.emitted.proofs.BreakLaws.{break-over, broken, broken-put}
 use borrow.Author.Needs.{needs}
-use Rattle.emission.proofs.put_block.Statement.{statement}
-use Rattle.emission.proofs.put_block.Tie as tie
+use Rattle.emitted.proofs.put_block.Statement.{statement}
+use Rattle.emitted.proofs.put_block.Tie as tie
 
 returns : tie.Need-returns
 returns c = let s = c .before .before .before .before .before in rw (le-leb (s .args .to .line) (s .args .from .line) (c .if1 .taken)) (nothing-put (s .args .room) (s .args .work .now) (s .pre .0 .below))

@@ -1,0 +1,3 @@
+pub mod LineLaws
+pub mod EmittedLaws
+pub mod BreakLaws
