@@ -76,7 +76,7 @@ lead-indent m (x ∷ l) h = go (eqb x 0x20) refl h (lead-indent m l)
     go true e h ih = rw (eqb-true x 0x20 e, ih h)
     go false e h ih = rw (h, mark-other m)
 
-trimmed : (l : List ℕ) → lead l ≡ indent l → trimStart l ≡ unindented l
+pub trimmed : (l : List ℕ) → lead l ≡ indent l → trimStart l ≡ unindented l
 unfolding trimStart
 trimmed l e = rw e
 

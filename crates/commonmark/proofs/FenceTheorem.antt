@@ -17,16 +17,8 @@ use Rattle.heading.specs.Walk.{closes, sameFence, stepAfter, outsideAfter}
 use Rattle.commonmark.specs.Strip.{isShown, indent}
 use Rattle.commonmark.specs.Fenced.{Mark, backtick, tilde, CodeFence, byteOf, unindented, run, info, isInfo, opensWith, codeOpener, closesCode, codeAfter}
 use Rattle.commonmark.specs.Fences.{threeOf, isSeen, indentedByFour, otherSpaceBefore, backtickInInfo, shorterCloser, textAfterCloser, departs, kindOfMark, asFence, IsFence, SameFence}
-use Rattle.commonmark.proofs.FenceLaws.{unseen, seen, not-both}
-
--- the second of two tests that do not both hold
-second : (a b : Bool) → a ≡ true → (a && b) ≡ false → b ≡ false
-second true b e h = h
-second false b e h = absurd (false≢true e)
-
-double : (b : Bool) → not b ≡ false → b ≡ true
-double true h = refl
-double false h = absurd (false≢true (sym h))
+use Rattle.commonmark.proofs.BoolLaws.{second, double, and-false}
+use Rattle.commonmark.proofs.FenceLaws.{trimmed, unseen, seen, not-both}
 
 -- behind up to three spaces and nothing else
 record Plain (l : List ℕ) : Type 0 where
@@ -45,10 +37,6 @@ opens : (m : Mark) (l : List ℕ) → threeOf m l ≡ true → Plain l → isInf
 unfolding opensWith
 opens m l t p i = rw (p .few, seen m l t (p .spaces), i)
 
-and-false : (a b : Bool) → (a && (false && b)) ≡ false
-and-false true b = refl
-and-false false b = refl
-
 shut : (m : Mark) (l : List ℕ) → threeOf m l ≡ false → opensWith m l ≡ false
 unfolding opensWith
 shut m l t = rw (unseen m l t) (and-false (leb (indent l) 3) (isInfo m (info m (unindented l))))
@@ -59,7 +47,7 @@ opened l true b p q d =
     let r = or-right (indentedByFour none l) _ d in
     let k = plain none l (rw p) (or-left (indentedByFour none l) _ d) (or-left (otherSpaceBefore none l) _ r) in
     let n = second (threeOf backtick l) _ p (or-left (backtickInInfo none l) _ (or-right (otherSpaceBefore none l) _ r)) in
-    rw (p, opens backtick l p k (rw n))
+    rw (p, opens backtick l p k (rw (rw (trimmed l (k .spaces)) at n)))
 opened l false true p q d =
     let r = or-right (indentedByFour none l) _ d in
     let k = plain none l (rw (p, q)) (or-left (indentedByFour none l) _ d) (or-left (otherSpaceBefore none l) _ r) in
@@ -88,8 +76,8 @@ closed f l true p h d =
     let r = or-right (indentedByFour (some f) l) _ d in
     let k = plain (some f) l p (or-left (indentedByFour (some f) l) _ d) (or-left (otherSpaceBefore (some f) l) _ r) in
     let s = or-right (backtickInInfo (some f) l) _ (or-right (otherSpaceBefore (some f) l) _ r) in
-    let n = ltb-false (run (f .mark) (unindented l)) (f .length) (second (threeOf (f .mark) l) _ p (or-left (shorterCloser (some f) l) _ s)) in
-    rw (k .few, le-leb (f .length) (run (f .mark) (unindented l)) (omega arith), second (threeOf (f .mark) l) _ p (or-right (shorterCloser (some f) l) _ s))
+    let n = ltb-false (run (f .mark) (unindented l)) (f .length) (rw (trimmed l (k .spaces)) at (second (threeOf (f .mark) l) _ p (or-left (shorterCloser (some f) l) _ s))) in
+    rw (k .few, le-leb (f .length) (run (f .mark) (unindented l)) (omega arith), rw (trimmed l (k .spaces)) at (second (threeOf (f .mark) l) _ p (or-right (shorterCloser (some f) l) _ s)))
 closed f l false p h d =
     let n = leb-false 3 (run (f .mark) (unindented l)) (unseen (f .mark) l p) in
     rw (lt-leb (f .length) (run (f .mark) (unindented l)) (omega arith)) (and-false (leb (indent l) 3) (not (any isShown (info (f .mark) (unindented l)))))

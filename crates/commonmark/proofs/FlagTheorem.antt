@@ -1,7 +1,7 @@
 -- Where no named departure holds the scan is in a fence behind a line exactly where CommonMark is. Assumes nothing.
 use Prim.Native.Nat.{ℕ, _≤_}
 use mathlib.Core.Path.{_≡_, refl, sym, _∙_, ap}
-use mathlib.Core.Bool.{Bool, true, false, cond, not, _&&_, _||_, false≢true}
+use mathlib.Core.Bool.{Bool, true, false, cond, not, _&&_, _||_}
 use mathlib.Core.List.{List}
 use mathlib.Core.Option.{Option, none, some}
 use borrow.Author.Tests.{leb-true}
@@ -23,7 +23,8 @@ use Rattle.scan.specs.Scan.{after, kindAt, isOpen as isOpenRegion}
 use Rattle.scan.specs.declared.state.State.{State}
 use Rattle.commonmark.specs.Strip.{indent}
 use Rattle.commonmark.specs.Fenced.{Mark, backtick, tilde, CodeFence, unindented, run, opensWith, codeOpener, closesCode, codeAfter}
-use Rattle.commonmark.specs.Fences.{threeOf, otherOf, indentedByFour, otherSpaceBefore, backtickInInfo, shorterCloser, textAfterCloser, otherKindCloses, departs, scanDeparts, kindOfMark, asFence, isOpen, IsFence, SameFlag, StaysFence, EachParts, OtherKindParts}
+use Rattle.commonmark.specs.Fences.{threeOf, otherOf, indentedByFour, otherSpaceBefore, backtickInInfo, shorterCloser, textAfterCloser, otherKindCloses, departs, scanDeparts, kindOfMark, asFence, isOpen, IsFence, SameFlag, StaysFence, EachParts, OtherKindParts, NoneHolds}
+use Rattle.commonmark.proofs.BoolLaws.{and-left, and-right}
 use Rattle.commonmark.proofs.FenceTheorem.{opened, closed}
 
 -- a kind that is no fence
@@ -118,14 +119,6 @@ same-flag (some f) st n at l h e d =
     go true q = rw (e, q)
     go false q = rw (e, q)
 
-and-left : (a b : Bool) → (a && b) ≡ true → a ≡ true
-and-left true b h = refl
-and-left false b h = h
-
-and-right : (a b : Bool) → (a && b) ≡ true → b ≡ true
-and-right true b h = h
-and-right false b h = absurd (false≢true h)
-
 -- an opener has three bytes or more, so what is open stays a fence
 opener-long : (m : Mark) (l : List ℕ) → opensWith m l ≡ true → 3 ≤ run m (unindented l)
 unfolding opensWith
@@ -152,3 +145,7 @@ each-parts = ((refl, (refl, refl)), ((refl, (refl, refl)), ((refl, (refl, refl))
 pub other-kind-parts : OtherKindParts
 unfolding otherKindCloses after kindAt kindOf isFence closesCode run indent first lead trimStart isSpace startsWith
 other-kind-parts = (refl, (refl, refl))
+
+pub none-holds : NoneHolds
+unfolding scanDeparts departs indentedByFour otherSpaceBefore backtickInInfo shorterCloser textAfterCloser otherKindCloses run indent first any lead trimStart isSpace startsWith
+none-holds = (refl, (refl, (refl, (refl, (refl, (refl, (refl, refl)))))))

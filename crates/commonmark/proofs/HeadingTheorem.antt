@@ -17,7 +17,8 @@ use Rattle.heading.specs.Walk.{hashes, headingOf, textStart, textEnd}
 use Rattle.heading.specs.declared.walk.LineKind.the-variants.{Quoted, Heading, Other}
 use Rattle.commonmark.specs.Strip.{strip, stripStart, stripEnd, indent}
 use Rattle.commonmark.specs.Atx.{Atx, unclosed, isClosed, runStart, atx, atxFrom, asAtx}
-use Rattle.commonmark.specs.Headings.{isOpened, behind, indented, tabAfterHashes, bareHashes, closingRun, otherSpaceBytes, departs, SameHeading, EachParts}
+use Rattle.commonmark.specs.Headings.{isHeading, isOpened, isOurs, behind, indented, tabAfterHashes, bareHashes, closingRun, otherSpaceBytes, departs, SameHeading, EachParts, NoneHolds}
+use Rattle.commonmark.proofs.BoolLaws.{second}
 use Rattle.commonmark.proofs.StripLaws.{trim-strip}
 
 -- the text of a heading of ours is what stands behind the hashes, trimmed
@@ -28,9 +29,9 @@ text-trimmed n l =
     let k : textEnd n l - textStart n l ≡ kept (drop (textStart n l) l) = omega arith in
     rw (k, d)
 
-same-text : (l : List ℕ) → closingRun l ≡ false → otherSpaceBytes l ≡ false → part (textStart (hashes l) l) (textEnd (hashes l) l) l ≡ unclosed (strip (behind l))
+same-text : (l : List ℕ) → isOurs l ≡ true → closingRun l ≡ false → otherSpaceBytes l ≡ false → part (textStart (hashes l) l) (textEnd (hashes l) l) l ≡ unclosed (strip (behind l))
 unfolding closingRun otherSpaceBytes unclosed
-same-text l c o = rw c (text-trimmed (hashes l) l ∙ trim-strip (behind l) o)
+same-text l k c o = rw (second (isOurs l) _ k c) (text-trimmed (hashes l) l ∙ trim-strip (behind l) (second (isOurs l) _ k o))
 
 -- what follows the hashes: the end, a space, a tab, or another byte
 followed :
@@ -42,27 +43,26 @@ followed l [] true o b t h c s = absurd (false≢true (sym (rw (o, b) at h)))
 followed l (x ∷ r) true o b t h c s = go (eqb x 0x20) (eqb x 0x09) refl refl
   where
     go : (y z : Bool) → eqb x 0x20 ≡ y → eqb x 0x09 ≡ z → asAtx l (headingOf l) ≡ atxFrom l
-    go true z p q = rw (o, b, eqb-true x 0x20 p) (ap (λ (text : List ℕ). some (record { level = hashes l; text = text })) (rw (b, eqb-true x 0x20 p) at (same-text l c s)))
+    go true z p q = rw (o, b, eqb-true x 0x20 p) (ap (λ (text : List ℕ). some (record { level = hashes l; text = text })) (rw (b, eqb-true x 0x20 p) at (same-text l (rw (o, b, eqb-true x 0x20 p)) c s)))
     go false true p q = absurd (false≢true (sym (rw (o, b, eqb-true x 0x09 q) at t)))
     go false false p q = rw (o, b, p, q)
 
--- behind spaces there is a heading of CommonMark's only where a hash follows, and none of ours
-none-from : (t : List ℕ) → startsWith (bytes "#") t ≡ false → atxFrom t ≡ none
-unfolding startsWith hashes first
-none-from [] h = refl
-none-from (y ∷ t) h = go (eqb y 0x23) refl h
-  where
-    go : (b : Bool) → eqb y 0x23 ≡ b → (b && true) ≡ false → atxFrom (y ∷ t) ≡ none
-    go true e h = absurd (false≢true (sym h))
-    go false e h = rw e
+-- behind spaces there is no heading of ours
+none-is : (o : Option Atx) → isHeading o ≡ false → o ≡ none
+none-is none h = refl
+none-is (some a) h = absurd (false≢true (sym h))
 
-none-within : (k : Bool) (t : List ℕ) → (k && startsWith (bytes "#") t) ≡ false → cond k (atxFrom t) none ≡ none
-none-within true t h = none-from t h
-none-within false t h = refl
+spaced : (l : List ℕ) → leb 1 (indent (0x20 ∷ l)) ≡ true
+unfolding indent first
+spaced l = le-leb 1 (suc (indent l)) (omega arith)
+
+unheaded : (l : List ℕ) → asAtx (0x20 ∷ l) (headingOf (0x20 ∷ l)) ≡ none
+unfolding first hashes headingOf
+unheaded l = refl
 
 spaces : (l : List ℕ) → indented (0x20 ∷ l) ≡ false → asAtx (0x20 ∷ l) (headingOf (0x20 ∷ l)) ≡ atx (0x20 ∷ l)
-unfolding indented atx indent first hashes headingOf
-spaces l h = sym (none-within (leb (suc (indent l)) 3) (drop (indent l) l) (rw (le-leb 1 (suc (indent l)) (omega arith)) at h))
+unfolding indented
+spaces l h = unheaded l ∙ sym (none-is (atx (0x20 ∷ l)) (second (leb 1 (indent (0x20 ∷ l))) _ (spaced l) h))
 
 no-space : (x : ℕ) (l : List ℕ) → eqb x 0x20 ≡ false → atx (x ∷ l) ≡ atxFrom (x ∷ l)
 unfolding atx indent first
@@ -88,3 +88,7 @@ same-heading (x ∷ l) d = go (eqb x 0x20) refl
 pub each-parts : EachParts
 unfolding indented tabAfterHashes bareHashes closingRun otherSpaceBytes isClosed runStart unclosed atx strip stripStart stripEnd indent headingOf textStart textEnd hashes lead kept isSpace first afterLast startsWith
 each-parts = ((refl, (refl, refl)), ((refl, (refl, refl)), ((refl, (refl, refl)), ((refl, (refl, refl)), (refl, (refl, refl))))))
+
+pub none-holds : NoneHolds
+unfolding departs indented tabAfterHashes bareHashes closingRun otherSpaceBytes isClosed runStart unclosed atx strip stripStart stripEnd indent hashes isSpace first afterLast startsWith
+none-holds = (refl, (refl, (refl, (refl, (refl, (refl, (refl, refl)))))))

@@ -1,5 +1,7 @@
+pub mod BoolLaws
 pub mod StripLaws
 pub mod HeadingTheorem
 pub mod FenceLaws
 pub mod FenceTheorem
 pub mod FlagTheorem
+pub mod ExampleTheorem

@@ -29,7 +29,7 @@ unindented l = drop (indent l) l
 unfoldable pub run : Mark → List ℕ → ℕ
 run m t = first (λ x. not (is (byteOf m) x)) t
 
--- what follows them: the info string
+-- what follows them: behind an opener the info string, before it is trimmed
 abbrev pub info : Mark → List ℕ → List ℕ
 info m t = drop (run m t) t
 

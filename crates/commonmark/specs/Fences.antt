@@ -8,16 +8,14 @@ use lib.Dec.{eqb, leb, ltb}
 use Rattle.text.specs.Bytes.{is, any}
 use Rattle.text.specs.Pattern.{bytes, startsWith}
 use Rattle.text.specs.Space.{lead, trimStart}
-use Rattle.fence.specs.Fences.{isFence}
 use Rattle.fence.specs.declared.Fence.{Fence}
 use Rattle.fence.specs.declared.Fence.the-variants.{Outside, Ticks, Tildes}
-use Rattle.marker.specs.Marker.{kindOf}
 use Rattle.scan.specs.Scan.{after, kindAt}
 use Rattle.scan.specs.declared.state.State.{State}
 use Rattle.scan.specs.declared.state.OpenRegion.the-variants.{Closed}
 use Rattle.heading.specs.Walk.{stepAfter}
 use Rattle.commonmark.specs.Strip.{isShown, indent}
-use Rattle.commonmark.specs.Fenced.{Mark, backtick, tilde, CodeFence, byteOf, unindented, run, info, codeAfter}
+use Rattle.commonmark.specs.Fenced.{Mark, backtick, tilde, CodeFence, byteOf, run, info, codeAfter}
 
 -- a line whose trimmed start has three of a byte: what we look for
 abbrev pub threeOf : Mark → List ℕ → Bool
@@ -38,18 +36,18 @@ otherSpaceBefore o l = isSeen o l && not (eqb (lead l) (indent l))
 
 -- a backtick in the info string: we open, CommonMark does not
 unfoldable pub backtickInInfo : Option CodeFence → List ℕ → Bool
-backtickInInfo none l = threeOf backtick l && any (is 0x60) (info backtick (unindented l))
+backtickInInfo none l = threeOf backtick l && any (is 0x60) (info backtick (trimStart l))
 backtickInInfo (some f) l = false
 
 -- a closer with fewer bytes than the opener: we close, CommonMark does not
 unfoldable pub shorterCloser : Option CodeFence → List ℕ → Bool
 shorterCloser none l = false
-shorterCloser (some f) l = threeOf (f .mark) l && ltb (run (f .mark) (unindented l)) (f .length)
+shorterCloser (some f) l = threeOf (f .mark) l && ltb (run (f .mark) (trimStart l)) (f .length)
 
 -- text after a closer: the same
 unfoldable pub textAfterCloser : Option CodeFence → List ℕ → Bool
 textAfterCloser none l = false
-textAfterCloser (some f) l = threeOf (f .mark) l && any isShown (info (f .mark) (unindented l))
+textAfterCloser (some f) l = threeOf (f .mark) l && any isShown (info (f .mark) (trimStart l))
 
 -- the scan alone: a fence of the other kind closes
 abbrev pub otherOf : Mark → Mark
@@ -120,3 +118,15 @@ OtherKindParts =
     (otherKindCloses (ticks 3) (bytes "~~~") ≡ true)
     × ((after (record { fence = true; region = Closed }) 2 4 (kindAt (record { fence = true; region = Closed }) 4 (bytes "~~~")) .fence ≡ false)
     × (isOpen (codeAfter (ticks 3) (bytes "~~~")) ≡ true))
+
+-- lines on which none of them holds: openers, closers and others, outside and in a fence
+abbrev pub NoneHolds : Type 0
+NoneHolds =
+    (scanDeparts none (bytes "```rust") ≡ false)
+    × ((scanDeparts none (bytes "   ~~~~") ≡ false)
+    × ((scanDeparts none (bytes "a ``` b `") ≡ false)
+    × ((scanDeparts none (bytes "    a") ≡ false)
+    × ((scanDeparts (ticks 3) (bytes "```") ≡ false)
+    × ((scanDeparts (ticks 3) (bytes "  `````  ") ≡ false)
+    × ((scanDeparts (ticks 3) (bytes "    a ```") ≡ false)
+    × (departs (ticks 3) (bytes "~~~ a") ≡ false)))))))

@@ -12,6 +12,10 @@ use Rattle.heading.specs.Walk.{hashes, headingOf}
 use Rattle.commonmark.specs.Strip.{strip, indent}
 use Rattle.commonmark.specs.Atx.{Atx, atx, asAtx, isClosed}
 
+abbrev pub isHeading : Option Atx → Bool
+isHeading none = false
+isHeading (some h) = true
+
 -- 1 to 6 hashes at column 0
 abbrev pub isOpened : List ℕ → Bool
 isOpened l = leb 1 (hashes l) && leb (hashes l) 6
@@ -20,9 +24,13 @@ isOpened l = leb 1 (hashes l) && leb (hashes l) 6
 abbrev pub behind : List ℕ → List ℕ
 behind l = drop (hashes l) l
 
--- one to three spaces before the hashes: a heading of CommonMark's, none of ours
+-- our heading: a space behind them
+abbrev pub isOurs : List ℕ → Bool
+isOurs l = isOpened l && startsWith (bytes " ") (behind l)
+
+-- one to three spaces before what is a heading of CommonMark's: none of ours
 unfoldable pub indented : List ℕ → Bool
-indented l = (leb 1 (indent l) && leb (indent l) 3) && startsWith (bytes "#") (drop (indent l) l)
+indented l = leb 1 (indent l) && isHeading (atx l)
 
 -- a tab after the hashes: a heading of CommonMark's, none of ours
 unfoldable pub tabAfterHashes : List ℕ → Bool
@@ -34,15 +42,15 @@ bareHashes l = isOpened l && eqb (length (behind l)) 0
 
 -- a closing run: CommonMark drops it, we keep it
 unfoldable pub closingRun : List ℕ → Bool
-closingRun l = isClosed (strip (behind l))
+closingRun l = isOurs l && isClosed (strip (behind l))
 
--- another space byte, 0A to 0D hex, at an end of the text: we trim it, CommonMark keeps it
+-- another space byte at an end of the text, 0B or 0C hex (a line of CommonMark's has no 0A and no 0D): we trim it, CommonMark keeps it
 abbrev pub isSpaced : List ℕ → Bool
 isSpaced [] = false
 isSpaced (x ∷ s) = isSpace x || isSpace (getD (x ∷ s) (length s) 0)
 
 unfoldable pub otherSpaceBytes : List ℕ → Bool
-otherSpaceBytes l = isSpaced (strip (behind l))
+otherSpaceBytes l = isOurs l && isSpaced (strip (behind l))
 
 -- the list
 unfoldable pub departs : List ℕ → Bool
@@ -67,3 +75,15 @@ EachParts =
     × (Parts bareHashes (bytes "##") none (heading 2 [])
     × (Parts closingRun (bytes "# a #") (heading 1 (bytes "a #")) (heading 1 (bytes "a"))
     × Parts otherSpaceBytes (bytes "# a" ++ (0x0B ∷ [])) (heading 1 (bytes "a")) (heading 1 (0x61 ∷ 0x0B ∷ [])))))
+
+-- lines on which none of them holds
+abbrev pub NoneHolds : Type 0
+NoneHolds =
+    (departs (bytes "# a") ≡ false)
+    × ((departs (bytes "###### a#") ≡ false)
+    × ((departs (bytes "see issue #") ≡ false)
+    × ((departs (bytes "#a #") ≡ false)
+    × ((departs (bytes "####### a #") ≡ false)
+    × ((departs (bytes "    # a") ≡ false)
+    × ((departs (bytes " #a") ≡ false)
+    × (departs [] ≡ false)))))))

@@ -3,3 +3,4 @@ pub mod Atx
 pub mod Headings
 pub mod Fenced
 pub mod Fences
+pub mod Examples

@@ -12,7 +12,7 @@ isBlankByte x = eqb x 0x20 || eqb x 0x09
 abbrev pub isShown : ℕ → Bool
 isShown x = not (isBlankByte x)
 
--- "stripped of leading and trailing spaces or tabs"
+-- "stripped of leading and trailing space or tabs"
 unfoldable pub stripStart : List ℕ → List ℕ
 stripStart s = drop (first isShown s) s
 

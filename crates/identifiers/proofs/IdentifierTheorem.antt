@@ -15,7 +15,7 @@ use Rattle.text.proofs.BytesLaws.{or-left, or-right, after-hit}
 use Rattle.anchor.specs.Anchor.{isMark, isKept, shows, markupAfter, plainFrom, plain, anchorOf, slug}
 use Rattle.anchor.specs.declared.Markup.the-variants.{Written, Bracket, Behind, Target}
 use Rattle.commonmark.specs.Headings.{isSpaced}
-use Rattle.identifiers.specs.Identifiers.{isLeft, identifier, underscore, bracket, markAtEnd, otherSpace, departs, SameIdentifier, EachParts}
+use Rattle.identifiers.specs.Identifiers.{isLeft, identifier, underscore, bracket, markAtEnd, otherSpace, departs, SameIdentifier, EachParts, NoneHolds}
 
 -- a text with no space byte at its ends is trimmed already
 last-other : (x : ℕ) (s : List ℕ) → isSpaced (x ∷ s) ≡ false → kept (x ∷ s) ≡ length (x ∷ s)
@@ -66,3 +66,7 @@ same-identifier t d =
 pub each-parts : EachParts
 unfolding underscore bracket markAtEnd otherSpace any slug plainFrom shows markupAfter anchorOf identifier trim trimStart trimEnd lead kept first afterLast isSpace lower
 each-parts = ((refl, (refl, refl)), ((refl, (refl, refl)), ((refl, (refl, refl)), (refl, (refl, refl)))))
+
+pub none-holds : NoneHolds
+unfolding departs underscore bracket markAtEnd otherSpace any plainFrom shows markupAfter isSpace
+none-holds = (refl, (refl, refl))

@@ -11,11 +11,11 @@ use Rattle.text.specs.Space.{isSpace}
 use Rattle.anchor.specs.Anchor.{plain, slug}
 use Rattle.commonmark.specs.Headings.{isSpaced}
 
--- "punctuation characters other than - and _ are removed": letters and digits, `-` and `_` are left
+-- "punctuation characters other than - and _ are removed": letters and digits, `-` and `_` are left; control bytes, of which the manual says nothing, go too, as in the tool
 abbrev pub isLeft : ℕ → Bool
 isLeft x = ((leb 0x61 (lower x) && leb (lower x) 0x7A) || isDigit x) || (eqb x 0x2D || eqb x 0x5F)
 
--- "Spaces are converted to dashes (-), uppercase characters to lowercase characters"
+-- "Spaces are converted to dashes (-), uppercase characters to lowercase characters"; any space byte is taken as a space
 unfoldable pub identifier : List ℕ → List ℕ
 identifier [] = []
 identifier (x ∷ s) = cond (isLeft x) (lower x ∷ identifier s) (cond (isSpace x) (0x2D ∷ identifier s) (identifier s))
@@ -28,7 +28,7 @@ underscore t = any (is 0x5F) t
 unfoldable pub bracket : List ℕ → Bool
 bracket t = any (is 0x5B) t
 
--- a mark at an end, with a space beside it: we trim the space once the mark is gone
+-- a space byte at an end, once marks are gone: we trim it
 unfoldable pub markAtEnd : List ℕ → Bool
 markAtEnd t = isSpaced (plain t)
 
@@ -40,7 +40,7 @@ otherSpace t = any (λ x. isSpace x && not (eqb x 0x20)) t
 unfoldable pub departs : List ℕ → Bool
 departs t = underscore t || (bracket t || (markAtEnd t || otherSpace t))
 
--- where none of them holds, our anchor is the manual's identifier, for every text
+-- where none of them holds, our anchor is the manual's identifier, for every text of which nothing is read as markup
 abbrev pub SameIdentifier : Type 0
 SameIdentifier = (t : List ℕ) → departs t ≡ false → slug t ≡ identifier t
 
@@ -52,6 +52,13 @@ Parts test t ours theirs = (test t ≡ true) × ((slug t ≡ ours) × (identifie
 abbrev pub EachParts : Type 0
 EachParts =
     Parts underscore (bytes "q_1") (bytes "q1") (bytes "q_1")
-    × (Parts bracket (bytes "a [b](c)") (bytes "a-b") (bytes "a-bc")
+    × (Parts bracket (bytes "a [b](c") (bytes "a-b") (bytes "a-bc")
     × (Parts markAtEnd (bytes "* a") (bytes "a") (bytes "-a")
     × Parts otherSpace (0x61 ∷ 0x09 ∷ bytes "b") (bytes "ab") (bytes "a-b")))
+
+-- texts on which none of them holds
+abbrev pub NoneHolds : Type 0
+NoneHolds =
+    (departs (bytes "Rating & Datum") ≡ false)
+    × ((departs (bytes "*Stage* at 6.20 m") ≡ false)
+    × (departs [] ≡ false))
