@@ -1,4 +1,4 @@
--- Document 01, "Gauging checks", on the definitions: K7, K8 and K9. Assumes nothing.
+-- Document 01, on the definitions: K7, K8 and K9 of "Gauging checks", and running texts that a fault leaves unmade. Assumes nothing.
 use Prim.Native.Nat.{ℕ}
 use Prim.Native.String.{String}
 use mathlib.Core.List.{List, [], _∷_, _++_}
@@ -8,7 +8,7 @@ use Rattle.answer.specs.declared.Refusal.the-variants.{HeadingLevel}
 use Rattle.text.specs.Pattern.{bytes}
 use Rattle.index.specs.Index.{fileOf}
 use Rattle.walk.specs.Steps.{Judged, given, refused}
-use Rattle.chains.specs.Chains.{startAt}
+use Rattle.chains.specs.Chains.{startAt, running}
 use Rattle.text.specs.Bytes.{first, afterLast}
 use Rattle.text.specs.Lines.{breaks, linesFrom}
 use Rattle.text.specs.Pattern.{startsWith, endsWith, equals, find}
@@ -24,7 +24,7 @@ use Rattle.path.specs.Path.{step, walked, resolve}
 use Rattle.link.specs.Target.{targetOf, anchorSelf}
 use Rattle.index.specs.Index.{firstNamed}
 use Rattle.walk.specs.Steps.{go, judge}
-use Rattle.chains.specs.Chains.{next, through, grow, free, timesIn}
+use Rattle.chains.specs.Chains.{next, through, grow, free, runningRest, timesIn}
 use Rattle.embedding.specs.Embed.{isMarker, unmarkedFrom, embeddedLines, embedTold, embed}
 use Rattle.chains.specs.Fill.{walk, walkRest}
 use Rattle.regions.specs.Regions.{problemsOf, isWithin, blankedFrom, lastLevel, regionsFrom, scanned}
@@ -52,3 +52,17 @@ Checks =
 pub checks : Checks
 unfolding first afterLast breaks linesFrom startsWith endsWith equals find isSpace lead kept trimStart trimEnd trim isBlank split join isFence pathOf namedOf restOf aloneOf fragmentOf textOf specOf markOf firstOf nextMark fragmentKind markedKind kindOf readBy readFrom readLine spanEvents eventsOf after kindAt lastOf scanFrom scan regionsOf shallowestOf hashes textStart textEnd headingOf opener closes opensComment writtenKind commentAfter outsideKind outsideAfter stepKind stepAfter kindsFrom relink relinkOpen relinkTarget step walked resolve targetOf anchorSelf firstNamed go judge next through grow free timesIn isMarker unmarkedFrom embeddedLines embedTold embed walk walkRest problemsOf isWithin blankedFrom lastLevel regionsFrom scanned toldFrom pastFrom upTo blanks
 checks = (refl, (refl, refl))
+
+-- the running texts of a host that may take in `b.md`
+abbrev runningOf : String → List (List ℕ)
+runningOf host = running (startAt (fileOf 1 (bytes "b.md") (bytes "# B") ∷ []) (fileOf 0 (bytes "h.md") (bytes host)))
+
+-- "a text that a fault leaves unmade has no further ones": none of a file with 9, whatever regions it has; with 14 at its first region the text through that opener alone
+abbrev pub Unmade : Type 0
+Unmade =
+    (runningOf "<!--[fragment:b.md]-->\n<!--[/]-->\n<!--[fragment:b.md]-->\n<!--[fragment:b.md]-->\n<!--[/]-->" ≡ [])
+    × (runningOf "<!--[fragment:z]-->\n<!--[/]-->\n<!--[fragment:b.md]-->\n<!--[/]-->" ≡ (bytes "<!--[fragment:z]-->" ∷ []))
+
+pub unmade : Unmade
+unfolding first afterLast breaks linesFrom startsWith endsWith equals find isSpace lead kept trimStart trimEnd trim split join isFence pathOf namedOf restOf aloneOf fragmentOf firstOf fragmentKind markedKind kindOf eventsOf after kindAt lastOf scanFrom scan regionsOf firstNamed next through grow free problemsOf regionsFrom scanned runningRest
+unmade = (refl, refl)
