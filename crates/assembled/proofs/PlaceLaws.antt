@@ -1,18 +1,21 @@
 -- The places of an assembly's refusals: what holds of each refusal at such a place holds of all that the walk of an assembly may come to. Assumes nothing.
-use Prim.Native.Nat.{ℕ, _+_, _≤_}
+use Prim.Native.Nat.{ℕ, _+_, _≤_, _<_}
 use native.Mathlib.Omega.{arith}
 use mathlib.Core.Path.{_≡_, refl}
 use mathlib.Core.Bool.{Bool, true, false, cond, not, _&&_}
 use mathlib.Core.List.{List, [], _∷_, _++_}
 use mathlib.Core.Option.{Option, none, some}
 use lib.Dec.{eqb}
+use lib.ListN.{length}
 use borrow.Author.Tests.{eqb-false}
 use Rattle.answer.specs.Answer.{place}
 use Rattle.answer.specs.declared.Place.{Place}
 use Rattle.answer.specs.declared.Refusal.{Refusal}
 use Rattle.answer.specs.declared.Refusal.the-variants.{HeadingLevel, TextLimit, NoTitle, SharedAnchor}
 use Rattle.text.specs.Bytes.{part as partOf}
+use Rattle.text.specs.Lines.{LF}
 use Rattle.text.specs.Pattern.{equals}
+use Rattle.text.specs.Split.{join}
 use Rattle.anchor.specs.Anchor.{slug}
 use Rattle.heading.specs.declared.walk.LineKind.{LineKind}
 use Rattle.heading.specs.declared.walk.LineKind.the-variants.{Quoted, Heading, Other}
@@ -28,10 +31,10 @@ use Rattle.target.specs.Titles.{titleNamed}
 use Rattle.emission.specs.Emit.{emit, joinLines}
 use Rattle.assembled.specs.Assemble.{prepareAll, emitAll, assemble}
 
--- P of 16 to 19 at members' files, from 1 to n; 17 also with no member
+-- P of 16 to 19 at members' files, from 1 to n
 pub record AssemblyPlaces (P : Refusal → Type 0) (n : ℕ) : Type 0 where
   pub heading : (f l : ℕ) → 1 ≤ f → f ≤ n → 1 ≤ l → P (HeadingLevel (place f l))
-  pub limit : (f : ℕ) → f ≤ n → P (TextLimit (place f 0))
+  pub limit : (f : ℕ) → 1 ≤ f → f ≤ n → P (TextLimit (place f 0))
   pub title : (f : ℕ) → 1 ≤ f → f ≤ n → P (NoTitle f)
   pub shared : (f l g k : ℕ) → 1 ≤ f → f ≤ n → 1 ≤ l → 1 ≤ g → g ≤ n → 1 ≤ k → P (SharedAnchor (place f l) (place g k))
 
@@ -107,21 +110,21 @@ module _ {P : Refusal → Type 0} {n : ℕ} (h : AssemblyPlaces P n) where
       each-append P (sharedIn qs m 1 (m .lines)) _ (in-each qs m 1 (m .lines) q (k .0) (omega arith))
       (shared-each (qs ++ (m ∷ [])) ms (each-append Known qs (m ∷ []) q (k .0, tt)) (k .1))
 
-  -- 16 and 17
+  -- 16 and 17; with no member the text is one LF, which is never over a limit
   emit-holds : (titles : List ℕ → Option (List ℕ)) (url : List ℕ) (m : Prepared) → Known m → Holds P Lines (part (emit titles url m))
   unfolding emit
   emit-holds titles url m k = holds-unless P Lines _ _ (past-places P (λ l. HeadingLevel (place (m .file) l)) (λ l c. h .heading (m .file) l (k .0) (k .1) c) _ _) tt
 
-  emits-hold : (f : Prepared → Part (List (List ℕ))) → ((m : Prepared) → Known m → Holds P Lines (part (f m))) → (k : ℕ) (ms : List Prepared) (ls : List (List ℕ)) → k ≤ n → AllKnown ms
+  emits-hold : (f : Prepared → Part (List (List ℕ))) → ((m : Prepared) → Known m → Holds P Lines (part (f m))) → (k : ℕ) (ms : List Prepared) (ls : List (List ℕ)) → (1 < length (join LF ls ++ (LF ∷ [])) → 1 ≤ k) → k ≤ n → AllKnown ms
       → Holds P Whole (emitAll f k ms ls)
   unfolding emitAll Each Holds
-  emits-hold f e k [] ls c q = (h .limit k c, tt)
-  emits-hold f e k (m ∷ ms) ls c q =
-      holds-go P Lines Whole (part (f m)) _ (e m (q .0)) (λ es z. (h .limit (m .file) (q .0 .1), emits-hold f e (m .file) ms (joinLines ls es) (q .0 .1) (q .1)))
+  emits-hold f e k [] ls o c q = ((λ l. h .limit k (o l) c), tt)
+  emits-hold f e k (m ∷ ms) ls o c q =
+      holds-go P Lines Whole (part (f m)) _ (e m (q .0)) (λ es z. ((λ l. h .limit (m .file) (q .0 .0) (q .0 .1)), emits-hold f e (m .file) ms (joinLines ls es) (λ l. q .0 .0) (q .0 .1) (q .1)))
 
   pub assemble-holds : (url : List ℕ) (hs : List File) → Each (InSet n) hs → Holds P Whole (assemble url hs)
-  unfolding assemble Each
+  unfolding assemble Each join
   assemble-holds url hs q =
       holds-go P AllKnown Whole (prepareAll hs) _ (all-holds hs q) (λ ms k.
       holds-go P AllKnown Whole (part (compare ms)) _ (holds-unless P AllKnown (sharedFrom [] ms) ms (shared-each [] ms tt k) k) (λ us j.
-      emits-hold (emit (titleNamed us) url) (emit-holds (titleNamed us) url) 0 us [] (omega arith) j))
+      emits-hold (emit (titleNamed us) url) (emit-holds (titleNamed us) url) 0 us [] (λ l. omega (arith, l)) (omega arith) j))

@@ -13,9 +13,11 @@ use Rattle.fileset.specs.Members.{members}
 use Rattle.fileset.specs.Check.{fillChecked, bookChecked}
 use Rattle.fileset.specs.declared.check.Checked.{Checked}
 use Rattle.fileset.specs.declared.check.Checked.the-variants.{Passed, Refused}
+use Rattle.fileset.proofs.PassedLaws.{fill-fit, book-fit}
 use Rattle.fileset.proofs.PlaceLaws.{HeadPlaces, fill-held, book-held}
-use Rattle.walk.specs.Outcome.{Outcome, noRegion, refusal, outcome}
-use Rattle.walk.specs.Steps.{done, Judged, given, refused, judge}
+use Rattle.walk.specs.Outcome.{Outcome, text, noRegion, refusal, outcome}
+use Rattle.walk.specs.Steps.{Steps, done, Judged, given, refused, judge}
+use Rattle.walk.proofs.StepsLaws.{given-judge}
 use Rattle.walk.proofs.HoldLaws.{Each, Holds, holds-go, holds-refused}
 use Rattle.chains.specs.Chains.{Chain, wrong, plain, host, fileAt, free, noMarks, startAt, start, starts}
 use Rattle.chains.specs.Fill.{walk, filled}
@@ -26,7 +28,7 @@ use Rattle.book.specs.Book.{membersOf, withTexts}
 use Rattle.book.specs.BookWalk.{walkAll, book}
 use Rattle.book.specs.Calls.{afterChecks, fillOutcome, assembleOutcome, bookOutcome}
 use Rattle.book.proofs.ListLaws.{members-within}
-use Rattle.book.proofs.Demand.{outcome-refused}
+use Rattle.book.proofs.Demand.{outcome-text, outcome-refused}
 
 -- the members are files of the set, whatever their texts
 members-in : {n : ℕ} (S : List File) → ((d : ℕ) → d < length S → InSet n (fileAt S d)) → (M : List ℕ) → Each (λ k. k < length S) M → Each (InSet n) (membersOf S M)
@@ -86,7 +88,7 @@ module _ (P : Refusal → Type 0) where
   fill-refusal index contents name t L B out work h w f x e =
       checks-refusal (fillChecked index contents name t L out work) (filled B L 0 (startAt (files index contents) (fileOf 0 name t))) x e
       (λ q. fill-held P index contents name t L out work x h w q)
-      (λ q g. holds-refused P (λ (s : List ℕ). Unit {0}) B L 0 (walk (startAt (files index contents) (fileOf 0 name t))) x
+      (λ q g. holds-refused P (λ (s : List ℕ). Unit {0}) B L 0 (walk (startAt (files index contents) (fileOf 0 name t))) x (fill-fit index contents name t L out work q .0)
       (grow-holds f (files index contents) (set-in index contents) name (free noMarks) noMarks (fileOf 0 name t) (omega arith) (omega arith))
       (filled-refusal B L 0 (startAt (files index contents) (fileOf 0 name t)) x g))
 
@@ -97,7 +99,7 @@ module _ (P : Refusal → Type 0) where
     assemble-refusal e =
         checks-refusal (bookChecked index contents list url L out work) (outcome (judge 0 L 0 (assemble url (membersOf (files index contents) (members (records index) list))))) x e
         (λ q. book-held P index contents list url L out work x h form absent q)
-        (λ q g. holds-refused P (λ (s : List ℕ). Unit {0}) 0 L 0 (assemble url (membersOf (files index contents) (members (records index) list))) x
+        (λ q g. holds-refused P (λ (s : List ℕ). Unit {0}) 0 L 0 (assemble url (membersOf (files index contents) (members (records index) list))) x (book-fit index contents list url L out work q .0)
         (assemble-holds a url (membersOf (files index contents) (members (records index) list))
         (members-in (files index contents) (set-in index contents) (members (records index) list) (members-within index contents list url L out work q)))
         (outcome-refused (judge 0 L 0 (assemble url (membersOf (files index contents) (members (records index) list)))) x g))
@@ -107,7 +109,7 @@ module _ (P : Refusal → Type 0) where
     book-refusal B f e =
         checks-refusal (bookChecked index contents list url L out work) (outcome (judge B L 0 (book (files index contents) (members (records index) list) url))) x e
         (λ q. book-held P index contents list url L out work x h form absent q)
-        (λ q g. holds-refused P (λ (s : List ℕ). Unit {0}) B L 0 (book (files index contents) (members (records index) list) url) x
+        (λ q g. holds-refused P (λ (s : List ℕ). Unit {0}) B L 0 (book (files index contents) (members (records index) list) url) x (book-fit index contents list url L out work q .0)
         (book-holds f a (files index contents) (set-in index contents) (members (records index) list) url (members-within index contents list url L out work q))
         (outcome-refused (judge B L 0 (book (files index contents) (members (records index) list) url)) x g))
 
@@ -126,3 +128,13 @@ no-assembly index contents list url L out work =
 pub no-book : (index contents list url : List ℕ) (L B out work : ℕ) → bookOutcome index contents list url L B out work ≡ noRegion → ⊥
 unfolding bookOutcome
 no-book index contents list url L B out work = no-judged (bookChecked index contents list url L out work) (judge B L 0 (book (files index contents) (members (records index) list) url))
+
+-- ---- an assembly takes no file in
+
+none-judged : (c : Checked) (L : ℕ) (w : Steps (List ℕ)) (t : List ℕ) (n : ℕ) → afterChecks c (outcome (judge 0 L 0 w)) ≡ text t n → n ≡ 0
+none-judged Passed L w t n e = omega (arith, given-judge 0 L 0 w t n (omega arith) (outcome-text (judge 0 L 0 w) t n e) .allowed)
+none-judged (Refused x) L w t n e = let z : _≡_ {A = ℕ} 0 1 = cc in absurd (omega arith)
+
+pub none-taken : (index contents list url : List ℕ) (L out work : ℕ) (t : List ℕ) (n : ℕ) → assembleOutcome index contents list url L out work ≡ text t n → n ≡ 0
+unfolding assembleOutcome
+none-taken index contents list url L out work = none-judged (bookChecked index contents list url L out work) L (assemble url (membersOf (files index contents) (members (records index) list)))

@@ -238,7 +238,7 @@ module _ {P : Refusal → Type 0} {low n : ℕ} (h : FillPlaces P low n) where
       (more : ℕ → Chain) (deeper : (d : ℕ) → d < length S → Holds P Whole (walk (more d))) where
     rest-holds : (rs : Regions) (ls : List (List ℕ)) → AllGood rs → Holds P Whole (walkRest (through S top m k more rs) ls)
     unfolding through walkRest Holds AllGood
-    rest-holds (behind us) ls q = (h .at-end k a b, tt)
+    rest-holds (behind us) ls q = ((λ l. h .at-end k a b), tt)
     rest-holds (region g rs) ls q = at-next (next S top m g) refl (next-good S top m g (q .0 .here)) (λ us. rest-holds rs us (q .1))
       where
         head : Holds P Lines (part (headed g))
@@ -246,15 +246,15 @@ module _ {P : Refusal → Type 0} {low n : ℕ} (h : FillPlaces P low n) where
 
         at-next : (y : Next) → next S top m g ≡ y → NextGood y → ((us : List (List ℕ)) → Holds P Whole (walkRest (through S top m k more rs) us))
             → Holds P Whole (walkRest (branch S g y more (through S top m k more rs)) ls)
-        at-next (stop x) e p ih = (q .0 .here .limit, holds-go P Lines Whole (part (headed g)) (λ u. failed x) head (λ u z. p))
+        at-next (stop x) e p ih = ((λ l. q .0 .here .limit), holds-go P Lines Whole (part (headed g)) (λ u. failed x) head (λ u z. p))
         at-next (on d) e p ih =
             let i = numbers d (next-free S top m g d e .0) in (
-              q .0 .here .limit,
+              (λ l. q .0 .here .limit),
               holds-go P Lines Whole (part (headed g)) _ head (λ u z. (
                 q .0 .here .allowance,
                 holds-go P Whole Whole (walk (more d)) _ (deeper d (next-free S top m g d e .0)) (λ v y.
                     holds-go P Lines Whole (part (embed g (fileAt S d .number) v)) _ (embed-each g (fileAt S d .number) v (i .0) (i .1)) (λ es x.
-                    (q .0 .here .limit, ih ((ls ++ g .before) ++ es)))),
+                    ((λ l. q .0 .here .limit), ih ((ls ++ g .before) ++ es)))),
               )),
             )
 

@@ -26,9 +26,9 @@ use Rattle.assembled.proofs.PlaceLaws.{AssemblyPlaces}
 use Rattle.book.specs.Calls.{fillOutcome, assembleOutcome, bookOutcome}
 use Rattle.book.specs.Contracts.{Gives, ScanCall}
 use Rattle.book.specs.Demand.{numbersOf}
-use Rattle.book.proofs.PlaceLaws.{fill-refusal, assemble-refusal, book-refusal, no-assembly, no-book}
+use Rattle.book.proofs.PlaceLaws.{fill-refusal, assemble-refusal, book-refusal, no-assembly, no-book, none-taken}
 use Rattle.demands.specs.Numbers.{NoRegion}
-use Rattle.demands.specs.Demand1.{scanRefusals, fillRefusals, assembleRefusals, bookRefusals, isOneOf, NumberIn, Placed, on-index, past-index, no-line, in-text, absent, heading, limit, no-title, shared, NoOpener, Answered, accepted, refused, Demand1}
+use Rattle.demands.specs.Demand1.{scanRefusals, fillRefusals, assembleRefusals, bookRefusals, isOneOf, NumberIn, Placed, on-index, past-index, no-line, in-text, absent, heading, limit, no-title, shared, NothingFilled, Answered, accepted, refused, Demand1}
 
 -- ---- each refusal at its places
 
@@ -77,7 +77,7 @@ module _ (may : List ℕ) (low R : ℕ) (one : low ≤ 1) where
         chain = (m .1 .1 .1 .1 .0, in-text refl (a, b) h (refl, refl));
         absent = (m .1 .1 .1 .1 .1 .0, absent refl (omega arith, b) h (refl, refl));
         allowance = (m .1 .1 .1 .1 .1 .1 .0, in-text refl (a, b) h (refl, refl));
-        limit = (m .1 .1 .1 .1 .1 .1 .1 .1 .0, limit refl (omega arith, b) (refl, refl));
+        limit = (m .1 .1 .1 .1 .1 .1 .1 .1 .0, limit refl (a, b) (refl, refl));
       }
 
   fill-fits : areIn (9 ∷ 10 ∷ 11 ∷ 12 ∷ 13 ∷ 14 ∷ 15 ∷ 16 ∷ 17 ∷ []) may ≡ true → FillPlaces (Fits may low R) low R
@@ -87,7 +87,7 @@ module _ (may : List ℕ) (low R : ℕ) (one : low ≤ 1) where
       record {
         one = one;
         at-line = line-fits e;
-        at-end = λ f a b. (m .1 .1 .1 .1 .1 .1 .1 .1 .0, limit refl (omega arith, b) (refl, refl));
+        at-end = λ f a b. (m .1 .1 .1 .1 .1 .1 .1 .1 .0, limit refl (a, b) (refl, refl));
         heading = λ f l a b h. (m .1 .1 .1 .1 .1 .1 .1 .0, heading refl (a, b) h (refl, refl));
       }
 
@@ -97,32 +97,32 @@ module _ (may : List ℕ) (low R : ℕ) (one : low ≤ 1) where
       let m = each-in may (16 ∷ 17 ∷ 18 ∷ 19 ∷ []) e in
       record {
         heading = λ f l a b h. (m .0, heading refl (a, b) h (refl, refl));
-        limit = λ f b. (m .1 .0, limit refl (omega arith, b) (refl, refl));
+        limit = λ f a b. (m .1 .0, limit refl (omega (arith, one, a), b) (refl, refl));
         title = λ f a b. (m .1 .1 .0, no-title refl (a, b) refl (refl, refl));
         shared = λ f l g k a b h c d j. (m .1 .1 .1 .0, shared refl (a, b) h (c, d) j);
       }
 
 -- where nothing is filled
 abbrev Unfilled : Refusal → Type 0
-Unfilled x = NoOpener (numbersOf x)
+Unfilled x = NothingFilled (numbersOf x)
 
 head-unfilled : (R : ℕ) → HeadPlaces Unfilled R
 head-unfilled R = record {
-  index-line = λ l h. record { absent = λ q. refl; limit = λ q. absurd (omega (arith, q .1)) };
-  too-many = record { absent = λ q. refl; limit = λ q. absurd (omega (arith, q .1)) };
-  past = λ l h. record { absent = λ q. refl; limit = λ q. absurd (omega (arith, q .1)) };
-  twice = λ l h. record { absent = λ q. refl; limit = λ q. absurd (omega (arith, q .1)) };
-  wide = λ f l a b h. record { absent = λ q. absurd (omega (arith, q .1)); limit = λ q. absurd (omega (arith, q .1)) };
-  name = record { absent = λ q. refl; limit = λ q. refl };
-  sizes = record { absent = λ q. refl; limit = λ q. refl };
+  index-line = λ l h. record { absent = λ q. refl; limit = λ q. absurd (omega (arith, q .1)); none = λ q. absurd (omega (arith, q)) };
+  too-many = record { absent = λ q. refl; limit = λ q. absurd (omega (arith, q .1)); none = λ q. absurd (omega (arith, q)) };
+  past = λ l h. record { absent = λ q. refl; limit = λ q. absurd (omega (arith, q .1)); none = λ q. absurd (omega (arith, q)) };
+  twice = λ l h. record { absent = λ q. refl; limit = λ q. absurd (omega (arith, q .1)); none = λ q. absurd (omega (arith, q)) };
+  wide = λ f l a b h. record { absent = λ q. absurd (omega (arith, q .1)); limit = λ q. absurd (omega (arith, q .1)); none = λ q. absurd (omega (arith, q)) };
+  name = record { absent = λ q. refl; limit = λ q. refl; none = λ q. absurd (omega (arith, q)) };
+  sizes = record { absent = λ q. refl; limit = λ q. refl; none = λ q. absurd (omega (arith, q)) };
 }
 
 assembly-unfilled : (R : ℕ) → AssemblyPlaces Unfilled R
 assembly-unfilled R = record {
-  heading = λ f l a b h. record { absent = λ q. absurd (omega (arith, q .1)); limit = λ q. absurd (omega (arith, q .1)) };
-  limit = λ f b. record { absent = λ q. absurd (omega (arith, q .1)); limit = λ q. refl };
-  title = λ f a b. record { absent = λ q. absurd (omega (arith, q .1)); limit = λ q. refl };
-  shared = λ f l g k a b h c d j. record { absent = λ q. absurd (omega (arith, q .1)); limit = λ q. absurd (omega (arith, q .1)) };
+  heading = λ f l a b h. record { absent = λ q. absurd (omega (arith, q .1)); limit = λ q. absurd (omega (arith, q .1)); none = λ q. absurd (omega (arith, q)) };
+  limit = λ f a b. record { absent = λ q. absurd (omega (arith, q .1)); limit = λ q. refl; none = λ q. absurd (omega (arith, q)) };
+  title = λ f a b. record { absent = λ q. absurd (omega (arith, q .1)); limit = λ q. refl; none = λ q. absurd (omega (arith, q)) };
+  shared = λ f l g k a b h c d j. record { absent = λ q. absurd (omega (arith, q .1)); limit = λ q. absurd (omega (arith, q .1)); none = λ q. absurd (omega (arith, q)) };
 }
 
 -- ---- an outcome, as it is given
@@ -140,27 +140,27 @@ module _ {out work answer out′ work′ : List ℕ} where
     filled-answered noRegion g h = inl (rw (g .numbers) refl, g .output)
     filled-answered (refusal x) g h = inr (answered (refusal x) (λ e. let z : _≡_ {A = ℕ} 0 1 = cc in omega arith) g h)
 
-  unfilled : (o : Outcome) → Gives o out work answer out′ work′ → ((x : Refusal) → o ≡ refusal x → Unfilled x) → NoOpener answer
-  unfilled (text t n) g h = rw (g .numbers) record { absent = λ q. absurd (omega (arith, q .0)); limit = λ q. absurd (omega (arith, q .0)) }
-  unfilled noRegion g h = rw (g .numbers) record { absent = λ q. absurd (omega (arith, q .0)); limit = λ q. absurd (omega (arith, q .0)) }
-  unfilled (refusal x) g h = rw (g .numbers) (h x refl)
+  unfilled : (o : Outcome) → Gives o out work answer out′ work′ → ((t : List ℕ) (n : ℕ) → o ≡ text t n → n ≡ 0) → ((x : Refusal) → o ≡ refusal x → Unfilled x) → NothingFilled answer
+  unfilled (text t n) g k h = rw (g .numbers) record { absent = λ q. absurd (omega (arith, q .0)); limit = λ q. absurd (omega (arith, q .0)); none = λ q. k t n refl }
+  unfilled noRegion g k h = rw (g .numbers) record { absent = λ q. absurd (omega (arith, q .0)); limit = λ q. absurd (omega (arith, q .0)); none = λ q. absurd (omega (arith, q)) }
+  unfilled (refusal x) g k h = rw (g .numbers) (h x refl)
 
 -- a scan
 module _ (s : List ℕ) {out answer out′ : List ℕ} where
   scanned-answered : (b c : Bool) → eqb (wideLine 1 s) 0 ≡ b → let a : Answer = cond b (cond c (AcceptedAs (length (listing s)) 0) (RefusedAs (TextLimit (place 0 0)))) (RefusedAs (WideByte (place 0 (wideLine 1 s)))) in
-      answer ≡ numbers a → out′ ≡ outputOf a s out → Answered scanRefusals 0 0 answer out out′ × NoOpener answer
+      answer ≡ numbers a → out′ ≡ outputOf a s out → Answered scanRefusals 0 0 answer out out′ × NothingFilled answer
   unfolding outputOf
   scanned-answered true true q e o = (
     accepted (rw e refl) (rw (e, o) (drop-append-seam (listing s) (drop (length (listing s)) out))),
-    rw e record { absent = λ q. absurd (omega (arith, q .0)); limit = λ q. absurd (omega (arith, q .0)) },
+    rw e record { absent = λ q. absurd (omega (arith, q .0)); limit = λ q. absurd (omega (arith, q .0)); none = λ q. refl },
   )
-  scanned-answered true false q e o = (refused (rw e refl) (rw e refl) (rw e (limit refl (omega arith, omega arith) (refl, refl))) o, rw e record { absent = λ q. refl; limit = λ q. refl })
+  scanned-answered true false q e o = (refused (rw e refl) (rw e refl) (rw e (limit refl (omega arith, omega arith) (refl, refl))) o, rw e record { absent = λ q. refl; limit = λ q. refl; none = λ q. absurd (omega (arith, q)) })
   scanned-answered false c q e o = (
     refused (rw e refl) (rw e refl) (rw e (in-text refl (omega arith, omega arith) (omega (arith, eqb-false (wideLine 1 s) 0 q)) (refl, refl))) o,
-    rw e record { absent = λ q. refl; limit = λ q. absurd (omega (arith, q .1)) },
+    rw e record { absent = λ q. refl; limit = λ q. absurd (omega (arith, q .1)); none = λ q. absurd (omega (arith, q)) },
   )
 
-scan-call : (s out answer out′ : List ℕ) → ScanCall s out answer out′ → Answered scanRefusals 0 0 answer out out′ × NoOpener answer
+scan-call : (s out answer out′ : List ℕ) → ScanCall s out answer out′ → Answered scanRefusals 0 0 answer out out′ × NothingFilled answer
 unfolding scanned
 scan-call s out answer out′ g = scanned-answered s (eqb (wideLine 1 s) 0) (leb (length (listing s)) (length out)) refl (g .numbers) (g .output)
 
@@ -180,8 +180,8 @@ demand-1 = record {
         answered assembleRefusals 1 R o (no-assembly index contents list url L (length out) (length work)) g
             (assemble-refusal (Fits assembleRefusals 1 R) index contents list url L (length out) (length work) (head-fits assembleRefusals 1 R (omega arith) refl)
             (refl, no-line refl (omega arith, omega arith) refl (refl, refl)) (λ l h. (refl, absent refl (omega arith, omega arith) h (refl, refl))) (assembly-fits assembleRefusals 1 R (omega arith) refl)),
-        unfilled o g (assemble-refusal Unfilled index contents list url L (length out) (length work) (head-unfilled R) record { absent = λ q. refl; limit = λ q. refl }
-            (λ l h. record { absent = λ q. refl; limit = λ q. absurd (omega (arith, q .1)) }) (assembly-unfilled R)),
+        unfilled o g (none-taken index contents list url L (length out) (length work)) (assemble-refusal Unfilled index contents list url L (length out) (length work) (head-unfilled R)
+            record { absent = λ q. refl; limit = λ q. refl; none = λ q. absurd (omega (arith, q)) } (λ l h. record { absent = λ q. refl; limit = λ q. absurd (omega (arith, q .1)); none = λ q. absurd (omega (arith, q)) }) (assembly-unfilled R)),
         g .cleared,
       );
   book = λ index contents list url L B out work answer out′ work′ g.

@@ -9,7 +9,7 @@ use lib.Dec.{eqb}
 use lib.ListN.{length, drop, replicate}
 use Rattle.index.specs.Index.{records}
 use Rattle.book.specs.Contracts.{ScanCall, FillCall, AssembleCall, BookCall}
-use Rattle.demands.specs.Numbers.{Accepted, NoRegion, Refused, RefusedBy, lengthOf, refusalNumber, placeFile, placeLine, secondFile, secondLine}
+use Rattle.demands.specs.Numbers.{Accepted, NoRegion, Refused, RefusedBy, lengthOf, filesOf, refusalNumber, placeFile, placeLine, secondFile, secondLine}
 
 -- the refusals that each call may give
 abbrev pub scanRefusals : List ℕ
@@ -54,18 +54,19 @@ pub data Placed (low R : ℕ) (answer : List ℕ) : Type 0 where
   absent : NumberIn (14 ∷ []) answer → FileFrom 0 R answer → 1 ≤ placeLine answer → NoSecond answer → Placed low R answer
   -- 16 "the named file, line among embedded lines", or "at the member; lines count its prepared lines"
   heading : NumberIn (16 ∷ []) answer → FileFrom 1 R answer → 1 ≤ placeLine answer → NoSecond answer → Placed low R answer
-  -- 17 "at the opener of its region, or at line 0"; a list with no member has none for the last LF
-  limit : NumberIn (17 ∷ []) answer → FileFrom 0 R answer → NoSecond answer → Placed low R answer
+  -- 17 "in the text being filled, at the opener of its region, or at line 0"; "in assembly it stands at the member"
+  limit : NumberIn (17 ∷ []) answer → FileFrom low R answer → NoSecond answer → Placed low R answer
   -- 18 "line 0"
   no-title : NumberIn (18 ∷ []) answer → FileFrom 1 R answer → placeLine answer ≡ 0 → NoSecond answer → Placed low R answer
   -- 19 "second place is that one's"
   shared : NumberIn (19 ∷ []) answer → FileFrom 1 R answer → 1 ≤ placeLine answer → (1 ≤ secondFile answer) × (secondFile answer ≤ R) → 1 ≤ secondLine answer
       → Placed low R answer
 
--- where nothing is filled, 14 stands at the list's line and 17 at line 0
-pub record NoOpener (answer : List ℕ) : Type 0 where
+-- where nothing is filled, 14 stands at the list's line and 17 at line 0, and no file is taken in: "files taken in (0 for assembly and scan)"
+pub record NothingFilled (answer : List ℕ) : Type 0 where
   pub absent : RefusedBy answer 14 → placeFile answer ≡ 0
   pub limit : RefusedBy answer 17 → placeLine answer ≡ 0
+  pub none : Accepted answer → filesOf answer ≡ 0
 
 -- an answer, with the output before and after it
 pub data Answered (may : List ℕ) (low R : ℕ) (answer out out′ : List ℕ) : Type 0 where
@@ -77,13 +78,13 @@ abbrev pub Zero : List ℕ → List ℕ → Type 0
 Zero work work′ = work′ ≡ replicate (length work) 0
 
 pub record Demand1 : Type 0 where
-  pub scan : (text out answer out′ : List ℕ) → ScanCall text out answer out′ → Answered scanRefusals 0 0 answer out out′ × NoOpener answer
+  pub scan : (text out answer out′ : List ℕ) → ScanCall text out answer out′ → Answered scanRefusals 0 0 answer out out′ × NothingFilled answer
   pub fill : (index contents name text : List ℕ) (L B : ℕ) (out work answer out′ work′ : List ℕ) → FillCall index contents name text L B out work answer out′ work′
       → ((NoRegion answer × (out′ ≡ out))
       ⊎ Answered fillRefusals 0 (length (records index)) answer out out′)
       × Zero work work′
   pub assemble : (index contents list url : List ℕ) (L : ℕ) (out work answer out′ work′ : List ℕ) → AssembleCall index contents list url L out work answer out′ work′
-      → Answered assembleRefusals 1 (length (records index)) answer out out′ × NoOpener answer
+      → Answered assembleRefusals 1 (length (records index)) answer out out′ × NothingFilled answer
       × Zero work work′
   pub book : (index contents list url : List ℕ) (L B : ℕ) (out work answer out′ work′ : List ℕ) → BookCall index contents list url L B out work answer out′ work′
       → Answered bookRefusals 1 (length (records index)) answer out out′

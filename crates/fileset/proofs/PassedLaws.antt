@@ -56,9 +56,9 @@ sizes-fit n m limit out work e =
     go false a b c o p q h = let z : _≡_ {A = ℕ} 0 1 = cc in absurd (omega arith)
 
 pub fill-fit : (index contents name text : List ℕ) (limit out work : ℕ) → fillChecked index contents name text limit out work ≡ Passed
-    → (limit ≤ out) × ((length (records index) + 0 + 2) * limit ≤ work)
+    → (1 ≤ limit) × ((limit ≤ out) × ((length (records index) + 0 + 2) * limit ≤ work))
 unfolding fillChecked
-fill-fit index contents name text limit out work e = sizes-fit (length (records index)) 0 limit out work (order-second (headChecked index contents text name) _ e) .1
+fill-fit index contents name text limit out work e = sizes-fit (length (records index)) 0 limit out work (order-second (headChecked index contents text name) _ e)
 
 pub book-fit : (index contents list url : List ℕ) (limit out work : ℕ) → bookChecked index contents list url limit out work ≡ Passed
     → (1 ≤ limit) × ((limit ≤ out) × ((length (records index) + length (names list) + 2) * limit ≤ work))

@@ -46,7 +46,7 @@ module _ (index contents name text rows : List ℕ) (limit out work n : ℕ) (p 
   roomy =
       let e : n ≡ length (records index) = counted in
       let k : length (records index) + 0 + 2 ≡ suc (suc n) = omega arith in
-      let h : suc (suc n) * limit ≤ work = rw k at (fill-fit index contents name text limit out work p .1) in
+      let h : suc (suc n) * limit ≤ work = rw k at (fill-fit index contents name text limit out work p .1 .1) in
       omega (arith, suc-mul (suc n) limit)
 
   pub fill-room : suc (free (take n noMarks)) * limit ≤ work
@@ -59,7 +59,7 @@ module _ (index contents name text rows : List ℕ) (limit out work n : ℕ) (p 
   fill-passed B h = rw (p, ← rows-same (q .told) counted) h
 
   pub fill-held : (r : Filled) → FilledWithin r limit → Fits (answered r) out work
-  fill-held (Text m f) h = (omega (arith, fill-fit index contents name text limit out work p .0), omega (arith, roomy))
+  fill-held (Text m f) h = (omega (arith, fill-fit index contents name text limit out work p .1 .0), omega (arith, roomy))
   fill-held NoRegion h = tt
   fill-held (Refused x) h = tt
 
