@@ -18,7 +18,7 @@ use Rattle.walk.proofs.StepsLaws.{ends-go, ends-part, weigh, weigh-go, weigh-go
 use Rattle.member.specs.Member.{Prepared, prepare}
 use Rattle.shared.specs.Shared.{sharedFrom, compare}
 use Rattle.target.specs.Titles.{titleNamed}
-use Rattle.emission.specs.Emit.{emit, joinLines}
+use Rattle.emitted.specs.Emit.{emit, joinLines}
 use Rattle.assembled.specs.Assemble.{prepareAll, emitAll, assemblePrepared, assemble}
 use Rattle.assembled.specs.Assembled.{preparedAll, joinedAll, assembledText, eachFaults, eachMade, present, preparedFaults, assemblyFaults, joins, assemblyRunning}
 

@@ -24,7 +24,7 @@ use Rattle.assembled.specs.Assemble.{prepareAll, emitAll, assemble}
 use Rattle.member.specs.Member.{withoutContents, preparedLines, titleOf, prepare, movable}
 use Rattle.shared.specs.Shared.{lineOf, earlier, sharedIn, sharedFrom}
 use Rattle.target.specs.Titles.{titleNamed}
-use Rattle.emission.specs.Emit.{emit}
+use Rattle.emitted.specs.Emit.{emit}
 
 abbrev assemblyOf : List File → Judged (List ℕ)
 assemblyOf members = judge 0 1000 0 (assemble (bytes "https://h/") members)

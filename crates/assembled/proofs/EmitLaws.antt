@@ -29,7 +29,7 @@ use Rattle.walk.specs.Parts.{good, unless}
 use Rattle.shift.specs.Shift.{Told, toldFrom, kindsOf, shiftFor, atLevel, movedLine, pastFrom, upTo, dropEnd}
 use Rattle.member.specs.Member.{withoutContents, preparedLines, Prepared, titleOf, titled, prepare, still, movable}
 use Rattle.emitted.specs.Line.{rewriteLine}
-use Rattle.emission.specs.Emit.{emit}
+use Rattle.emitted.specs.Emit.{emit}
 
 -- a list has a last element, and its bytes are some
 unfoldable pub Ends : {A : Type 0} → (A → List ℕ) → List A → Type 0

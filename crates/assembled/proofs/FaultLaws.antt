@@ -20,7 +20,7 @@ use Rattle.chains.proofs.FaultLaws.{past-fault, unless-fault}
 use Rattle.member.specs.Member.{Prepared, titleOf, titled, preparedLines, prepare}
 use Rattle.shared.specs.Shared.{earlier, sharedAt, sharedLine, sharedIn, sharedFrom}
 use Rattle.target.specs.Titles.{titleNamed}
-use Rattle.emission.specs.Emit.{emit}
+use Rattle.emitted.specs.Emit.{emit}
 use Rattle.assembled.specs.Assembled.{eachFaults, eachMade, present, preparedFaults, assemblyFaults}
 
 -- 18

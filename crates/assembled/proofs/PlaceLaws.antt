@@ -28,7 +28,7 @@ use Rattle.chains.proofs.PlaceLaws.{past-places}
 use Rattle.member.specs.Member.{Prepared, titleOf, titled, preparedLines, prepare}
 use Rattle.shared.specs.Shared.{lineOf, earlier, sharedAt, sharedLine, sharedIn, sharedFrom, compare}
 use Rattle.target.specs.Titles.{titleNamed}
-use Rattle.emission.specs.Emit.{emit, joinLines}
+use Rattle.emitted.specs.Emit.{emit, joinLines}
 use Rattle.assembled.specs.Assemble.{prepareAll, emitAll, assemble}
 
 -- P of 16 to 19 at members' files, from 1 to n

@@ -10,7 +10,7 @@ use Rattle.index.specs.Index.{File}
 use Rattle.member.specs.Member.{Prepared, prepare}
 use Rattle.shared.specs.Shared.{compare}
 use Rattle.target.specs.Titles.{titleNamed}
-use Rattle.emission.specs.Emit.{emit, joinLines}
+use Rattle.emitted.specs.Emit.{emit, joinLines}
 
 -- "All members are prepared (18)"
 unfoldable pub prepareAll : List File → Steps (List Prepared)

@@ -10,7 +10,7 @@ use Rattle.walk.specs.Parts.{Part, partMade, partFaults, andThen, ifMade}
 use Rattle.member.specs.Member.{Prepared, prepare}
 use Rattle.shared.specs.Shared.{sharedFrom, compare}
 use Rattle.target.specs.Titles.{titleNamed}
-use Rattle.emission.specs.Emit.{emit, joinLines}
+use Rattle.emitted.specs.Emit.{emit, joinLines}
 
 -- the text: every member prepared, all compared, every one emitted, and joined
 unfoldable pub preparedAll : List File → Option (List Prepared)

@@ -18,7 +18,7 @@ use Rattle.members.specs.Members.{memberAt, preparedIn, preparedFrom}
 use Rattle.members.specs.declared.Member.{Member}
 use Rattle.target.specs.Titles.{titleNamed}
 use Rattle.assembled.specs.Assemble.{assemblePrepared}
-use Rattle.emission.specs.Emit.{emit}
+use Rattle.emitted.specs.Emit.{emit}
 use Rattle.joining.specs.declared.Assembled.{Assembled}
 use Rattle.joining.specs.declared.Assembled.the-variants.{Text, Refused}
 use Rattle.joining.specs.Joining.{CanEmit, emitIn, putAnswer, Running, Added, AddedBehind}

@@ -17,7 +17,7 @@ use Rattle.shift.proofs.ShiftLaws.{past-none, past-some}
 use Rattle.member.specs.Member.{Prepared}
 use Rattle.member.specs.Lines.{keptLines}
 use Rattle.outline.specs.Outline.{movedKinds}
-use Rattle.emission.specs.Emit.{emit}
+use Rattle.emitted.specs.Emit.{emit}
 use Rattle.emission.specs.Emission.{emittedLines}
 
 module _ (titles : List ℕ → Option (List ℕ)) (url : List ℕ) (m : Prepared) (s : List ℕ) (lines : m .lines ≡ keptLines s) where

@@ -1,2 +1,1 @@
-pub mod Emit
 pub mod Emission

@@ -8,7 +8,7 @@ use Rattle.text.specs.Lines.{LF, led}
 use Rattle.text.specs.Pattern.{bytes}
 use Rattle.text.specs.Split.{join}
 use Rattle.text.proofs.LedLaws.{join-led, text-more}
-use Rattle.emission.specs.Emit.{joinLines}
+use Rattle.emitted.specs.Emit.{joinLines}
 use Rattle.joining.specs.Joining.{ruleBefore}
 use Rattle.assembled.proofs.EmitLaws.{Ends, line}
 

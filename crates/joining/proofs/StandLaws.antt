@@ -16,7 +16,7 @@ use Rattle.shift.specs.Levels.{AreLevels}
 use Rattle.put.specs.declared.Source.{Source}
 use Rattle.walk.specs.Parts.{good}
 use Rattle.member.specs.Member.{prepare}
-use Rattle.emission.specs.Emit.{emit}
+use Rattle.emitted.specs.Emit.{emit}
 use Rattle.assembled.proofs.EmitLaws.{emitted-ends}
 use Rattle.joining.proofs.RuleLaws.{ends-some}
 

@@ -26,7 +26,7 @@ use Rattle.put.specs.declared.Put.the-variants.{To, Over}
 use Rattle.member.specs.Member.{Prepared}
 use Rattle.member.specs.Lines.{keptLines}
 use Rattle.outline.specs.Outline.{ShiftBelow}
-use Rattle.emission.specs.Emit.{emit, joinLines}
+use Rattle.emitted.specs.Emit.{emit, joinLines}
 use Rattle.emission.specs.Emission.{emittedLines}
 use Rattle.emission.proofs.EmitLaws.{emit-good, emit-past}
 use Rattle.assembled.specs.Assemble.{emitAll}

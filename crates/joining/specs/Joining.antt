@@ -13,7 +13,7 @@ use Rattle.put.specs.declared.Put.{Put}
 use Rattle.put.specs.declared.Put.the-variants.{To, Over}
 use Rattle.member.specs.Member.{Prepared}
 use Rattle.target.specs.Titles.{titlesIn}
-use Rattle.emission.specs.Emit.{emit}
+use Rattle.emitted.specs.Emit.{emit}
 use Rattle.assembled.specs.Assemble.{emitAll}
 use Rattle.joining.specs.declared.Assembled.{Assembled}
 use Rattle.joining.specs.declared.Assembled.the-variants.{Text, Refused}

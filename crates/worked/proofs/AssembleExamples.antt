@@ -31,7 +31,7 @@ use Rattle.shift.specs.Shift.{toldFrom, pastFrom as headingsPast, upTo}
 use Rattle.member.specs.Member.{withoutContents, preparedLines, titleOf, prepare, movable}
 use Rattle.shared.specs.Shared.{lineOf as anchorLine, earlier, sharedIn, sharedFrom}
 use Rattle.target.specs.Titles.{titleNamed}
-use Rattle.emission.specs.Emit.{emit}
+use Rattle.emitted.specs.Emit.{emit}
 use Rattle.assembled.specs.Assemble.{prepareAll, emitAll, assemble}
 use Rattle.book.specs.Calls.{assembleOutcome}
 

@@ -39,7 +39,7 @@ use Rattle.assembled.specs.Assemble.{prepareAll, emitAll, assemble}
 use Rattle.member.specs.Member.{withoutContents, preparedLines, titleOf, prepare, movable}
 use Rattle.shared.specs.Shared.{lineOf as lineOf-of-assemblyMember, earlier, sharedIn, sharedFrom}
 use Rattle.target.specs.Titles.{titleNamed}
-use Rattle.emission.specs.Emit.{emit}
+use Rattle.emitted.specs.Emit.{emit}
 use Rattle.book.specs.BookWalk.{walkAll, book}
 use Rattle.book.specs.Book.{withTexts}
 use Rattle.book.specs.Calls.{bookOutcome}
