@@ -1,6 +1,6 @@
 // Joining members into one text: all prepared, compared, and emitted one behind the other.
 ghost use mathlib.Core.Path.{_≡_};
-ghost use Prim.Native.Nat.{ℕ, _+_, _≤_};
+ghost use Prim.Native.Nat.{ℕ, _+_, _≤_, _<_};
 ghost use lib.ListN.{length};
 ghost use Rattle.walk.specs.Outcome.{outcome};
 ghost use Rattle.walk.specs.Steps.{judge};
@@ -48,7 +48,21 @@ fn emit_all(
     joining::answer_of(put::put_bytes(b"\n", Room { at, limit }, work), file)
 }
 
-// Assembles members into the front of the work buffer. Their texts that lie in it stand from the limit up to the table, which has as many bytes as the limit.
+// Where the table of marks ends: it has as many bytes as the limit, or as the contents if that is more and there is room.
+fn table_end(table: usize, limit: usize, contents: usize, work: usize) -> usize
+    requires { ⌜ (1 ≤ limit) × (table + limit ≤ work) ⌝ }
+    ensures { λ r. ⌜ (table < r) × (r ≤ work) ⌝ }
+{
+    if contents <= limit {
+        return table + limit;
+    }
+    if work - table < contents {
+        return work;
+    }
+    table + contents
+}
+
+// Assembles members into the front of the work buffer. Their texts that lie in it stand from the limit up to the table.
 pub fn assemble(
     index: &[u8],
     contents: &[u8],
@@ -64,18 +78,15 @@ pub fn assemble(
     ensures { λ r. ⌜ AssembledWithin r limit ⌝ }
 {
     match preparation::prepare_all(contents, work, set, count) {
-        Ready::All => match shared::compare(
-            index,
-            contents,
-            set,
-            count,
-            table,
-            table + limit,
-            work,
-        ) {
-            Shared::Nowhere => emit_all(index, contents, url, set, count, limit, work),
-            Shared::At(first, second) => Assembled::Refused(Refusal::SharedAnchor(first, second)),
-        },
+        Ready::All => {
+            let end = table_end(table, limit, contents.len(), work.len());
+            match shared::compare(index, contents, set, count, table, end, work) {
+                Shared::Nowhere => emit_all(index, contents, url, set, count, limit, work),
+                Shared::At(first, second) => {
+                    Assembled::Refused(Refusal::SharedAnchor(first, second))
+                }
+            }
+        }
         Ready::Refused(refusal) => Assembled::Refused(refusal),
     }
 }

@@ -13,17 +13,17 @@ prepare-all-requires c κs = let s = c .before .before .before .before .before .
 enum-told : tie.Need-enum-told
 enum-told c = search needs
 
-add-compare : tie.Need-add-compare
-add-compare c = search needs
+table-end-requires : tie.Need-table-end-requires
+table-end-requires c κs = (omega arith, omega arith)
 
 compare-requires : tie.Need-compare-requires
-compare-requires c κs = let s = c .before .before .before .before .before .before .before .before .before .before .before in let p = rw (c .before .before .enum-told .given .1) at (c .before .before .before .before .prepare-all .ensures) in (compare-stand (s .pre .0) p, (omega arith, omega arith))
+compare-requires c κs = let s = c .before .before .before .before .before .before .before .before .before .before .before .before in let p = rw (c .before .before .before .enum-told .given .1) at (c .before .before .before .before .before .prepare-all .ensures) in (compare-stand (s .pre .0) p, (omega arith, omega arith))
 
 enum-told-2 : tie.Need-enum-told-2
 enum-told-2 c = search needs
 
 emit-all-requires : tie.Need-emit-all-requires
-emit-all-requires c κs = let s = c .before .before .before .before .before .before .before .before .before .before .before .before .before .before .before .before .before .before in let p = rw (c .before .before .before .before .before .before .before .before .before .enum-told .given .1) at (c .before .before .before .before .before .before .before .before .before .before .before .prepare-all .ensures) in whole-emit (s .pre .0) p (c .before .before .before .before .before .before .compare .last .1 .1 .1 .1 .1 .1 .0) (c .before .before .before .before .before .before .compare .ensures .1) (s .pre .1 .0) (omega arith)
+emit-all-requires c κs = let s = c .before .before .before .before .before .before .before .before .before .before .before .before .before .before .before .before .before .before .before in let p = rw (c .before .before .before .before .before .before .before .before .before .before .enum-told .given .1) at (c .before .before .before .before .before .before .before .before .before .before .before .before .prepare-all .ensures) in whole-emit (s .pre .0) p (c .before .before .before .before .before .before .compare .last .1 .1 .1 .1 .1 .1 .0) (c .before .before .before .before .before .before .compare .ensures .1) (s .pre .1 .0) (omega arith)
 
 enum-known-first : tie.Need-enum-known-first
 enum-known-first c = search needs
@@ -35,8 +35,8 @@ same-length : tie.Need-same-length
 same-length c = search needs
 
 returns : tie.Need-returns
-returns c = let s = c .before .before .before .before .before .before .before .before .before .before .before .before .before .before .before .before .before .before .before .before .before in
-    let p = rw (c .before .before .before .before .before .before .before .before .before .before .before .before .enum-told .given .1) at (c .before .before .before .before .before .before .before .before .before .before .before .before .before .before .prepare-all .ensures) in
+returns c = let s = c .before .before .before .before .before .before .before .before .before .before .before .before .before .before .before .before .before .before .before .before .before .before in
+    let p = rw (c .before .before .before .before .before .before .before .before .before .before .before .before .before .enum-told .given .1) at (c .before .before .before .before .before .before .before .before .before .before .before .before .before .before .before .prepare-all .ensures) in
     let q = rw (c .before .before .before .before .before .enum-told2 .given .1) at (c .before .before .before .before .before .before .before .before .before .compare .ensures .0) in
     ((λ B n. whole-goes (s .pre .0) p (c .before .before .before .before .before .before .before .before .before .compare .last .1 .1 .1 .1 .1 .1 .0) (c .before .before .before .before .before .before .before .before .before .compare .ensures .1) (s .args .url .now) q B (s .args .limit) n _ (c .before .before .emit-all .ensures .0 B n)), c .before .before .emit-all .ensures .1)
 
@@ -44,8 +44,8 @@ same-length-2 : tie.Need-same-length-2
 same-length-2 c = search needs
 
 returns-2 : tie.Need-returns-2
-returns-2 c = let s = c .before .before .before .before .before .before .before .before .before .before .before .before .before .before .before .before .before in
-    let p = rw (c .before .before .before .before .before .before .before .before .enum-told .given .1) at (c .before .before .before .before .before .before .before .before .before .before .prepare-all .ensures) in
+returns-2 c = let s = c .before .before .before .before .before .before .before .before .before .before .before .before .before .before .before .before .before .before in
+    let p = rw (c .before .before .before .before .before .before .before .before .before .enum-told .given .1) at (c .before .before .before .before .before .before .before .before .before .before .before .prepare-all .ensures) in
     let q = rw (c .before .first .given .1) at (c .before .before .before .before .before .compare .ensures .0) in
     ((λ B n. whole-shares (s .pre .0) p (s .args .url .now) (c .before .first .given .0 .0) (c .before .first .given .0 .1 .0) (q .0) (q .1) B (s .args .limit) n), tt)
 
@@ -63,7 +63,7 @@ assemble-spec =
     (tie.spec
     prepare-all-requires
     enum-told
-    add-compare
+    table-end-requires
     compare-requires
     enum-told-2
     emit-all-requires
