@@ -1,6 +1,6 @@
 // A sentence for each refusal: what the crew has to mend. A name stands inside some of them.
 ghost use mathlib.Core.Path.{_≡_};
-ghost use Rattle.report.specs.Report.{hasName};
+ghost use Rattle.words.specs.Words.{hasName};
 
 // Whether a name stands inside the sentence of a refusal: the file that a line names, or the second place.
 pub fn has_name(number: u64) -> bool
@@ -9,8 +9,8 @@ pub fn has_name(number: u64) -> bool
     (number == 13) | (number == 14) | (number == 19)
 }
 
-// The sentence up to the name, or whole.
-pub fn say_first(fd: i32, number: u64) {
+// The sentence for what is wrong with a call's input, up to the name or whole: 1 to 8.
+fn say_input(fd: i32, number: u64) {
     match number {
         1 => io::write_all(
             fd,
@@ -38,6 +38,14 @@ pub fn say_first(fd: i32, number: u64) {
             fd,
             b"the text limit is not 1 to 1,048,576, or a buffer is too short for it: lend larger buffers",
         ),
+        _ => false,
+    }
+    ;
+}
+
+// The same for what is wrong with a file's markers and regions, and with what they name: 9 to 15.
+fn say_region(fd: i32, number: u64) {
+    match number {
         9 => io::write_all(
             fd,
             b"the region is opened inside a region: close the first one above it",
@@ -60,6 +68,14 @@ pub fn say_first(fd: i32, number: u64) {
             fd,
             b"as many files as the allowance has are taken in already: a limit was met, no file needs mending",
         ),
+        _ => false,
+    }
+    ;
+}
+
+// The same for what is wrong with the text that is made: 16 to 19.
+fn say_made(fd: i32, number: u64) {
+    match number {
         16 => io::write_all(
             fd,
             b"the heading would be past level 6 where its text stands: give it fewer hashes",
@@ -73,6 +89,17 @@ pub fn say_first(fd: i32, number: u64) {
         _ => false,
     }
     ;
+}
+
+// The sentence up to the name, or whole.
+pub fn say_first(fd: i32, number: u64) {
+    if number <= 8 {
+        say_input(fd, number);
+    } else if number <= 15 {
+        say_region(fd, number);
+    } else {
+        say_made(fd, number);
+    }
 }
 
 // The sentence behind the name.
