@@ -1,10 +1,10 @@
--- `notes::save::save` stays within its buffers. Assumes nothing.
+-- `save::save` stays within its buffers. Assumes nothing.
 use borrow.Author.Needs.{needs}
 use lib.Seq.{length-take-le}
 use native.Mathlib.Omega.{arith}
 use mathlib.Core.Path.{sym}
-use Rattle.notes.proofs.save.save.Statement.{statement}
-use Rattle.notes.proofs.save.save.Tie as tie
+use Rattle.save.proofs.save.Statement.{statement}
+use Rattle.save.proofs.save.Tie as tie
 
 buffer-requires : tie.Need-buffer-requires
 buffer-requires c κs = search needs

@@ -1,10 +1,10 @@
--- `notes::save::can_save` stays within its buffers. Assumes nothing.
+-- `save::can_save` stays within its buffers. Assumes nothing.
 use borrow.Author.Needs.{needs}
 use lib.Seq.{length-take-le}
 use native.Mathlib.Omega.{arith}
 use mathlib.Core.Path.{sym}
-use Rattle.notes.proofs.save.can_save.Statement.{statement}
-use Rattle.notes.proofs.save.can_save.Tie as tie
+use Rattle.save.proofs.can_save.Statement.{statement}
+use Rattle.save.proofs.can_save.Tie as tie
 
 buffer-requires : tie.Need-buffer-requires
 buffer-requires c κs = search needs

@@ -1,9 +1,9 @@
--- `notes::save::is_given` ends. Assumes nothing.
+-- `save::is_given` ends. Assumes nothing.
 use borrow.Author.Needs.{needs}
 use native.Mathlib.Omega.{arith}
 use Prim.Native.Nat.{_-_, _≤_}
-use Rattle.notes.proofs.save.is_given.Statement.{statement}
-use Rattle.notes.proofs.save.is_given.Tie as tie
+use Rattle.save.proofs.is_given.Statement.{statement}
+use Rattle.save.proofs.is_given.Tie as tie
 
 abbrev Inv-loop : tie.InvT-loop
 Inv-loop first count book beside k₀ k = k ≤ count
