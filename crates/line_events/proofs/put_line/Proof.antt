@@ -1,4 +1,4 @@
--- `events::put_line` meets its contract: each arm by the kind that was matched. Assumes nothing.
+-- `line_events::put_line` meets its contract: each arm by the kind that was matched. Assumes nothing.
 use Rattle.log.specs.Sink.{putAll}
 use Rattle.scan.proofs.ScanLaws.{kind-within}
 use Rattle.scan.specs.Scan.{eventsOf}
@@ -6,8 +6,8 @@ use Rattle.text.proofs.BytesLaws.{rest, rest-length}
 use native.Mathlib.Omega.{arith}
 use mathlib.Core.Path.{sym, _∙_}
 use borrow.Author.Needs.{needs}
-use Rattle.events.proofs.put_line.Statement.{statement}
-use Rattle.events.proofs.put_line.Tie as tie
+use Rattle.line_events.proofs.put_line.Statement.{statement}
+use Rattle.line_events.proofs.put_line.Tie as tie
 
 enum-told : tie.Need-enum-told
 enum-told c = search needs

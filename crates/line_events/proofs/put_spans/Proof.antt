@@ -1,4 +1,4 @@
--- `events::put_spans` meets its contract. The invariant: what is left to read at place i of the line, put after what was put so far, is the whole.
+-- `line_events::put_spans` meets its contract. The invariant: what is left to read at place i of the line, put after what was put so far, is the whole.
 use Prim.Native.Nat.{_-_, _≤_}
 use mathlib.Core.Path.{_≡_, refl, sym, ap, _∙_}
 use mathlib.Core.List.{map}
@@ -10,9 +10,9 @@ use Rattle.scan.specs.Scan.{Reading, readLine}
 use Rattle.log.specs.Sink.{sink, putAll}
 use Rattle.scan.specs.declared.event.Event.the-variants.{OfSpan}
 use Rattle.scan.proofs.ScanLaws.{leftAt, left-start, left-problem, left-end, span-within, span-stop}
-use Rattle.events.proofs.EventLaws.{span-put}
-use Rattle.events.proofs.put_spans.Statement.{statement}
-use Rattle.events.proofs.put_spans.Tie as tie
+use Rattle.line_events.proofs.SpanLaws.{span-put}
+use Rattle.line_events.proofs.put_spans.Statement.{statement}
+use Rattle.line_events.proofs.put_spans.Tie as tie
 
 abbrev Inv-markers : tie.InvT-markers
 Inv-markers line o n log₀ out₀ to₀ i₀ log out to i =

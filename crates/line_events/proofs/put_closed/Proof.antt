@@ -1,9 +1,9 @@
--- `events::put_closed` meets its contract: each arm by the region that was matched. Assumes nothing.
+-- `line_events::put_closed` meets its contract: each arm by the region that was matched. Assumes nothing.
 use Rattle.log.specs.Sink.{putAll}
 use mathlib.Core.Path.{_∙_}
 use borrow.Author.Needs.{needs}
-use Rattle.events.proofs.put_closed.Statement.{statement}
-use Rattle.events.proofs.put_closed.Tie as tie
+use Rattle.line_events.proofs.put_closed.Statement.{statement}
+use Rattle.line_events.proofs.put_closed.Tie as tie
 
 enum-told : tie.Need-enum-told
 enum-told c = search needs

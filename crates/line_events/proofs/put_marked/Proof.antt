@@ -1,9 +1,9 @@
--- `events::put_marked` meets its contract: the spans, then the problem that stopped them. Assumes nothing.
-use Rattle.events.proofs.EventLaws.{stop-problem, stop-end}
+-- `line_events::put_marked` meets its contract: the spans, then the problem that stopped them. Assumes nothing.
+use Rattle.line_events.proofs.SpanLaws.{stop-problem, stop-end}
 use mathlib.Core.Path.{sym, _∙_}
 use borrow.Author.Needs.{needs}
-use Rattle.events.proofs.put_marked.Statement.{statement}
-use Rattle.events.proofs.put_marked.Tie as tie
+use Rattle.line_events.proofs.put_marked.Statement.{statement}
+use Rattle.line_events.proofs.put_marked.Tie as tie
 
 put-spans-requires : tie.Need-put-spans-requires
 put-spans-requires c κs = search needs
