@@ -1,11 +1,11 @@
--- `path::put_kept_down` meets its contract. Assumes nothing.
+-- `resolve::put_kept_down` meets its contract. Assumes nothing.
 use mathlib.Core.Path.{sym}
 use lib.ListN.{length-drop}
 use native.Mathlib.Omega.{arith}
-use Rattle.path.proofs.PathLaws.{part-behind, closed-same, closed-fits}
+use Rattle.resolve.proofs.ResolveLaws.{part-behind, closed-same, closed-fits}
 use borrow.Author.Needs.{needs}
-use Rattle.path.proofs.put_kept_down.Statement.{statement}
-use Rattle.path.proofs.put_kept_down.Tie as tie
+use Rattle.resolve.proofs.put_kept_down.Statement.{statement}
+use Rattle.resolve.proofs.put_kept_down.Tie as tie
 
 sub-put-part : tie.Need-sub-put-part
 sub-put-part c = search needs

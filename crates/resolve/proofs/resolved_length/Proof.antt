@@ -1,13 +1,14 @@
--- `path::resolved_length` meets its contract. The invariant: the parts found make up a text of `n` bytes. Assumes nothing.
+-- `resolve::resolved_length` meets its contract. The invariant: the parts found make up a text of `n` bytes. Assumes nothing.
 use mathlib.Core.Path.{refl, ap, _∙_}
 use mathlib.Core.List.{[]}
 use lib.ListN.{length}
 use native.Mathlib.Omega.{arith}
 use borrow.Author.Needs.{needs}
 use Rattle.path.specs.Backward.{weight}
-use Rattle.path.proofs.PathLaws.{reached-root, Measured, measured-start, measured-fits, measured-on}
-use Rattle.path.proofs.resolved_length.Statement.{statement}
-use Rattle.path.proofs.resolved_length.Tie as tie
+use Rattle.path.proofs.PathLaws.{reached-root}
+use Rattle.resolve.proofs.ResolveLaws.{Measured, measured-start, measured-fits, measured-on}
+use Rattle.resolve.proofs.resolved_length.Statement.{statement}
+use Rattle.resolve.proofs.resolved_length.Tie as tie
 
 abbrev Inv-loop : tie.InvT-loop
 Inv-loop path dir n₀ c₀ n c = Measured dir path n c

@@ -1,9 +1,9 @@
--- `path::put_part` meets its contract: the `/` first, then the part before it. Assumes nothing.
+-- `resolve::put_part` meets its contract: the `/` first, then the part before it. Assumes nothing.
 use native.Mathlib.Omega.{arith}
-use Rattle.path.proofs.PathLaws.{closed-length, closed-on}
+use Rattle.resolve.proofs.ResolveLaws.{closed-length, closed-on}
 use borrow.Author.Needs.{needs}
-use Rattle.path.proofs.put_part.Statement.{statement}
-use Rattle.path.proofs.put_part.Tie as tie
+use Rattle.resolve.proofs.put_part.Statement.{statement}
+use Rattle.resolve.proofs.put_part.Tie as tie
 
 put-slash-requires : tie.Need-put-slash-requires
 put-slash-requires c κs = let a = c .before .before .before .args in omega (arith, closed-length (a .part .now) (a .at) (a .end))

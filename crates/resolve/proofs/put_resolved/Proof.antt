@@ -1,12 +1,13 @@
--- `path::put_resolved` meets its contract. The invariant: the parts found are written from `at` to the end. Assumes nothing.
+-- `resolve::put_resolved` meets its contract. The invariant: the parts found are written from `at` to the end. Assumes nothing.
 use mathlib.Core.Path.{refl}
 use mathlib.Core.List.{[]}
 use native.Mathlib.Omega.{arith}
 use borrow.Author.Needs.{needs}
 use Rattle.path.specs.Backward.{weight}
-use Rattle.path.proofs.PathLaws.{reached-start, Written, written-length, written-all, written-fits, written-on}
-use Rattle.path.proofs.put_resolved.Statement.{statement}
-use Rattle.path.proofs.put_resolved.Tie as tie
+use Rattle.path.proofs.PathLaws.{reached-start}
+use Rattle.resolve.proofs.ResolveLaws.{Written, written-length, written-all, written-fits, written-on}
+use Rattle.resolve.proofs.put_resolved.Statement.{statement}
+use Rattle.resolve.proofs.put_resolved.Tie as tie
 
 abbrev Inv-loop : tie.InvT-loop
 Inv-loop path dir end out₀ at₀ c₀ out at c = Written dir path end out₀ out at c

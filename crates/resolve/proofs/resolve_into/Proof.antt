@@ -1,13 +1,14 @@
--- `path::resolve_into` meets its contract. The invariant: the parts found are written from `at` to the end. Assumes nothing.
+-- `resolve::resolve_into` meets its contract. The invariant: the parts found are written from `at` to the end. Assumes nothing.
 use mathlib.Core.Path.{_≡_, refl}
 use mathlib.Core.List.{[]}
 use lib.ListN.{length}
 use native.Mathlib.Omega.{arith}
 use borrow.Author.Needs.{needs}
 use Rattle.path.specs.Backward.{weight}
-use Rattle.path.proofs.PathLaws.{reached-start, Written, written-length, written-end, written-small, written-room, written-long, written-on}
-use Rattle.path.proofs.resolve_into.Statement.{statement}
-use Rattle.path.proofs.resolve_into.Tie as tie
+use Rattle.path.proofs.PathLaws.{reached-start}
+use Rattle.resolve.proofs.ResolveLaws.{Written, written-length, written-end, written-small, written-room, written-long, written-on}
+use Rattle.resolve.proofs.resolve_into.Statement.{statement}
+use Rattle.resolve.proofs.resolve_into.Tie as tie
 
 abbrev Inv-loop : tie.InvT-loop
 Inv-loop path dir out₀ end at₀ c₀ out at c = (end ≡ length out₀) × Written dir path end out₀ out at c

@@ -1,11 +1,11 @@
--- `path::put_part_down` meets its contract: the `/` is written before the part's bytes, which stay. Assumes nothing.
+-- `resolve::put_part_down` meets its contract: the `/` is written before the part's bytes, which stay. Assumes nothing.
 use native.Mathlib.Omega.{arith}
 use Rattle.text.specs.Bytes.{part}
 use Rattle.text.proofs.BytesLaws.{part-full}
-use Rattle.path.proofs.PathLaws.{closed-length, closed-down}
+use Rattle.resolve.proofs.ResolveLaws.{closed-length, closed-down}
 use borrow.Author.Needs.{needs}
-use Rattle.path.proofs.put_part_down.Statement.{statement}
-use Rattle.path.proofs.put_part_down.Tie as tie
+use Rattle.resolve.proofs.put_part_down.Statement.{statement}
+use Rattle.resolve.proofs.put_part_down.Tie as tie
 
 put-slash-requires : tie.Need-put-slash-requires
 put-slash-requires c κs =

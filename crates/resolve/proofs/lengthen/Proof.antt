@@ -1,8 +1,8 @@
--- `path::lengthen` meets its contract. Assumes nothing.
+-- `resolve::lengthen` meets its contract. Assumes nothing.
 use borrow.Author.Needs.{needs}
-use Rattle.path.proofs.PathLaws.{lengthened-some}
-use Rattle.path.proofs.lengthen.Statement.{statement}
-use Rattle.path.proofs.lengthen.Tie as tie
+use Rattle.resolve.proofs.ResolveLaws.{lengthened-some}
+use Rattle.resolve.proofs.lengthen.Statement.{statement}
+use Rattle.resolve.proofs.lengthen.Tie as tie
 
 returns : tie.Need-returns
 returns c = search needs

@@ -1,14 +1,15 @@
--- `path::put_resolved_down` meets its contract. The invariant: the parts found are written from `at` to the end, and the path behind it stays.
+-- `resolve::put_resolved_down` meets its contract. The invariant: the parts found are written from `at` to the end, and the path behind it stays.
 -- Assumes nothing.
 use mathlib.Core.Path.{refl}
 use mathlib.Core.List.{[]}
 use native.Mathlib.Omega.{arith}
 use borrow.Author.Needs.{needs}
 use Rattle.text.specs.Bytes.{part}
 use Rattle.path.specs.Backward.{weight}
-use Rattle.path.proofs.PathLaws.{reached-start, Written, written-length, written-all, down-within, down-last, down-bounded, down-fits, down-on}
-use Rattle.path.proofs.put_resolved_down.Statement.{statement}
-use Rattle.path.proofs.put_resolved_down.Tie as tie
+use Rattle.path.proofs.PathLaws.{reached-start}
+use Rattle.resolve.proofs.ResolveLaws.{Written, written-length, written-all, down-within, down-last, down-bounded, down-fits, down-on}
+use Rattle.resolve.proofs.put_resolved_down.Statement.{statement}
+use Rattle.resolve.proofs.put_resolved_down.Tie as tie
 
 abbrev Inv-loop : tie.InvT-loop
 Inv-loop work₀ from to dir end at₀ c₀ work at c = Written dir (part from to work₀) end work₀ work at c

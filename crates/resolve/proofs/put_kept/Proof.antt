@@ -1,8 +1,8 @@
--- `path::put_kept` meets its contract. Assumes nothing.
+-- `resolve::put_kept` meets its contract. Assumes nothing.
 use native.Mathlib.Omega.{arith}
 use borrow.Author.Needs.{needs}
-use Rattle.path.proofs.put_kept.Statement.{statement}
-use Rattle.path.proofs.put_kept.Tie as tie
+use Rattle.resolve.proofs.put_kept.Statement.{statement}
+use Rattle.resolve.proofs.put_kept.Tie as tie
 
 sub-put-part : tie.Need-sub-put-part
 sub-put-part c = search needs

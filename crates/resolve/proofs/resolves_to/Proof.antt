@@ -1,4 +1,4 @@
--- `path::resolves_to` meets its contract. The invariant: the parts found make up the name's bytes from `at` on. Assumes nothing.
+-- `resolve::resolves_to` meets its contract. The invariant: the parts found make up the name's bytes from `at` on. Assumes nothing.
 use Prim.Native.Nat.{_≤_}
 use mathlib.Core.Path.{sym, ap, _∙_}
 use lib.ListN.{length, drop}
@@ -7,10 +7,10 @@ use native.Mathlib.Omega.{arith}
 use borrow.Author.Needs.{needs}
 use Rattle.text.specs.Pattern.{equals}
 use Rattle.text.proofs.PatternLaws.{equals-drop}
 use Rattle.path.specs.Backward.{weight}
 use Rattle.path.proofs.PathLaws.{Reached, reached-start, reached-on, reached-root, reached-not}
-use Rattle.path.proofs.resolves_to.Statement.{statement}
-use Rattle.path.proofs.resolves_to.Tie as tie
+use Rattle.resolve.proofs.resolves_to.Statement.{statement}
+use Rattle.resolve.proofs.resolves_to.Tie as tie
 
 abbrev Inv-loop : tie.InvT-loop
 Inv-loop path dir name at₀ c₀ at c = (at ≤ length name) × Reached dir path c (drop at name)

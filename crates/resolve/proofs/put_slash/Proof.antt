@@ -1,10 +1,10 @@
--- `path::put_slash` meets its contract. Assumes nothing.
+-- `resolve::put_slash` meets its contract. Assumes nothing.
 use mathlib.Core.Path.{refl}
 use native.Mathlib.Omega.{arith}
 use borrow.Author.Tests.{eq-eqb, ne-eqb}
 use borrow.Author.Needs.{needs}
-use Rattle.path.proofs.put_slash.Statement.{statement}
-use Rattle.path.proofs.put_slash.Tie as tie
+use Rattle.resolve.proofs.put_slash.Statement.{statement}
+use Rattle.resolve.proofs.put_slash.Tie as tie
 
 returns : tie.Need-returns
 returns c = let e = eq-eqb _ _ (c .if1 .taken) in (rw e (omega arith), rw e)
