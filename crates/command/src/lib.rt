@@ -27,7 +27,7 @@ fn give(book: usize, out: &[u8], length: usize) -> i32 {
     }
     let text = &out[..length];
     if book != 0 {
-        if notes::save::save(book, text) {
+        if save::save(book, text) {
             return BOOK;
         }
         return NO_CALL;
@@ -101,7 +101,7 @@ fn can_give(call: Call) -> bool
     if call.book == 0 {
         return true;
     }
-    notes::save::can_save(call.book, call.url + 1, call.notes + 1)
+    save::can_save(call.book, call.url + 1, call.notes + 1)
 }
 
 // Runs stationbook on the program's arguments, and answers its exit status.

@@ -36,12 +36,12 @@ pub extern "C" fn leaf_resolve(path: &[u8], dir: &[u8], out: &mut [u8], answer: 
     ensures { λ _. ⌜ now (answer .exit) ≡ one (length (resolve (now (dir .entry)) (now (path .entry)))) ⌝ }
     ensures { λ _. ⌜ now (out .exit) ≡ written (resolve (now (dir .entry)) (now (path .entry))) (now (out .entry)) ⌝ }
 {
-    let n = path::resolved_length(path, dir);
+    let n = resolve::resolved_length(path, dir);
     if out.len() < n {
         *answer = number::one(n as u64);
         return;
     }
-    path::put_resolved(path, dir, n, out);
+    resolve::put_resolved(path, dir, n, out);
     *answer = number::one(n as u64);
 }
 
@@ -50,7 +50,7 @@ pub extern "C" fn leaf_resolve(path: &[u8], dir: &[u8], out: &mut [u8], answer: 
 pub extern "C" fn leaf_resolves(path: &[u8], dir: &[u8], name: &[u8], answer: &mut [u64; 6])
     ensures { λ _. ⌜ now (answer .exit) ≡ one (bit (equalsTo (now (name .entry)) (resolve (now (dir .entry)) (now (path .entry))))) ⌝ }
 {
-    let b = path::resolves_to(path, dir, name);
+    let b = resolve::resolves_to(path, dir, name);
     *answer = number::one(bytes::bit(b) as u64);
 }
 

@@ -48,7 +48,7 @@ pub fn anchor_self(target: &[u8], dir: &[u8], host: &[u8]) -> usize
             if e == target.len() {
                 return 0;
             }
-            if path::resolves_to(&target[..e], dir, host) {
+            if resolve::resolves_to(&target[..e], dir, host) {
                 return e;
             }
             0

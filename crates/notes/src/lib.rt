@@ -1,4 +1,4 @@
-// Reads what arguments name into buffers, makes the index of the notes, and saves the book. What fails is said on standard error.
+// Reads what arguments name into buffers, and makes the index of the notes. What fails is said on standard error.
 ghost use mathlib.Core.Path.{_≡_};
 ghost use Prim.Native.Nat.{_+_, _≤_};
 ghost use lib.ListN.{length};
@@ -8,7 +8,6 @@ use station::record;
 use station::shown;
 
 pub mod buffers;
-pub mod save;
 
 // Where a file that was read ends in its buffer; or that it can't be read, or that there is no room for it.
 pub enum Reading {

@@ -4,8 +4,6 @@ use mathlib.Core.Bool.{Bool, true, false, cond}
 use mathlib.Core.List.{List, [], _∷_, _++_}
 use mathlib.Core.Path.{_≡_}
 use lib.ListN.{length, take, drop}
-use lib.Seq.{sets}
-use lib.Dec.{eqb}
 use Rattle.text.specs.Bytes.{part}
 use Rattle.text.specs.Pattern.{endsWith}
 use Rattle.text.specs.Split.{split}
@@ -99,19 +97,6 @@ pub record LastKept (dir path : List ℕ) (c b : PathCursor) (e : ℕ) : Type 0 
 abbrev pub LastPart : List ℕ → List ℕ → PathCursor → PathPart → Type 0
 LastPart dir path c (Part b e) = LastKept dir path c b e
 LastPart dir path c Root = (t : List ℕ) → tailOf (rest dir path c) (tail 0 t) .text ≡ t
-
--- how long a part of k bytes is before a text of n bytes
-abbrev pub lengthened : ℕ → ℕ → ℕ
-lengthened zero k = k
-lengthened (suc n) k = suc n + suc k
-
--- a part with a `/` behind it unless its place is the end of all
-abbrev pub closed : ℕ → ℕ → List ℕ → List ℕ
-closed at end p = cond (eqb at end) p (p ++ (SLASH ∷ []))
-
--- a text once a part is written so that it ends at a place, and where it starts
-abbrev pub Closed : List ℕ → ℕ → ℕ → List ℕ → ℕ → List ℕ → Type 0
-Closed p at end out r out' = (r + length (closed at end p) ≡ at) × (out' ≡ sets out r (closed at end p))
 
 -- where a name goes on from, once a part is put before its bytes from a place on; or that it does not end so
 abbrev pub FoundPart : List ℕ → List ℕ → ℕ → Found → Type 0

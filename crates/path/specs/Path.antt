@@ -1,15 +1,12 @@
 -- Document 01, "Fill": "`resolve`: one leading `/` means root, else the directory is put before; empty and `.` parts go; `..` drops a part, or nothing at root."
-use Prim.Native.Nat.{ℕ, _-_, _≤_, _<_}
+use Prim.Native.Nat.{ℕ, _-_}
 use mathlib.Core.Bool.{Bool, cond, _||_}
 use mathlib.Core.List.{List, [], _∷_, _++_}
-use mathlib.Core.Path.{_≡_}
-use lib.ListN.{length, take, drop}
+use lib.ListN.{length, take}
 use lib.Dec.{eqb}
 use Rattle.text.specs.Bytes.{is, afterLast}
 use Rattle.text.specs.Pattern.{bytes, startsWith, equals}
 use Rattle.text.specs.Split.{split, join}
-use Rattle.path.specs.declared.Resolved.{Resolved}
-use Rattle.path.specs.declared.Resolved.the-variants.{From, Long}
 
 abbrev pub SLASH : ℕ
 SLASH = 0x2F
@@ -39,8 +36,3 @@ walked kept (p ∷ ps) = walked (step kept p) ps
 
 unfoldable pub resolve : List ℕ → List ℕ → List ℕ
 resolve dir path = join SLASH (walked [] (base dir path ++ split SLASH path))
-
--- a path in a directory stands resolved in a buffer from a place to the end, or is longer than the buffer
-abbrev pub Resolves : List ℕ → List ℕ → List ℕ → Resolved → Type 0
-Resolves dir path out (From a) = (a ≤ length out) × (drop a out ≡ resolve dir path)
-Resolves dir path out Long = length out < length (resolve dir path)

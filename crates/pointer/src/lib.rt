@@ -64,10 +64,10 @@ fn put_path(contents: &[u8], path: Source, dir: &[u8], room: Room, work: &mut [u
     let a = path.start;
     let e = path.end;
     if path.work {
-        path::put_resolved_down(work, a, e, dir, end);
+        resolve::put_resolved_down(work, a, e, dir, end);
         return Put::To(end);
     }
-    path::put_resolved(&contents[a..e], dir, end, work);
+    resolve::put_resolved(&contents[a..e], dir, end, work);
     Put::To(end)
 }
 

@@ -2,15 +2,16 @@
 ghost use mathlib.Core.Path.{_≡_};
 ghost use lib.ListN.{length};
 ghost use Rattle.anchor.specs.Anchor.{slug, anchorFrom, CursorWithin, NextByte};
-ghost use Rattle.path.specs.Path.{resolve, Resolves};
+ghost use Rattle.path.specs.Path.{resolve};
+ghost use Rattle.resolve.specs.Resolve.{Resolves};
 ghost use Rattle.link.specs.Target.{targetOf};
 ghost use Rattle.put.specs.Put.{sourceText, Inside};
 use anchor::AnchorByte;
 use anchor::AnchorCursor;
 use link::target;
 use link::target::Target;
-use path::Resolved;
 use put::Source;
+use resolve::Resolved;
 
 // A target taken apart.
 pub fn target_in(contents: &[u8], work: &[u8], target: Source) -> Target
@@ -39,9 +40,9 @@ pub fn resolve_in(
     let a = path.start;
     let e = path.end;
     if path.work {
-        return path::resolve_into(&work[a..e], dir, out);
+        return resolve::resolve_into(&work[a..e], dir, out);
     }
-    path::resolve_into(&contents[a..e], dir, out)
+    resolve::resolve_into(&contents[a..e], dir, out)
 }
 
 // How long a path in a directory is once it is resolved.
@@ -52,9 +53,9 @@ pub fn length_in(contents: &[u8], work: &[u8], path: Source, dir: &[u8]) -> usiz
     let a = path.start;
     let e = path.end;
     if path.work {
-        return path::resolved_length(&work[a..e], dir);
+        return resolve::resolved_length(&work[a..e], dir);
     }
-    path::resolved_length(&contents[a..e], dir)
+    resolve::resolved_length(&contents[a..e], dir)
 }
 
 // The cursor at the start of the anchor of a title.

@@ -6,7 +6,6 @@ use libc::STDERR_FILENO;
 use station::shown;
 
 pub mod named;
-pub mod words;
 
 // The argument that a place stands in, where the URL is this argument, the list the next, and the notes follow.
 fn argument_of(url: usize, number: u64, file: usize, line: usize) -> usize

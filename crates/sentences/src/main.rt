@@ -1,6 +1,5 @@
 // Prints the sentence of each refusal, a line each: its number, a tab and the sentence, with {} where a name stands.
 use libc::STDOUT_FILENO;
-use report::words;
 
 fn print_sentence(number: u64) {
     io::print_decimal(STDOUT_FILENO, number);

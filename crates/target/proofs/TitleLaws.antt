@@ -13,8 +13,9 @@ use Rattle.text.specs.declared.pattern.Found.the-variants.{At, Nothing}
 use Rattle.text.specs.Bytes.{part}
 use Rattle.text.proofs.BytesLaws.{rest, part-length}
 use Rattle.anchor.specs.Anchor.{slug}
-use Rattle.path.specs.Path.{resolve, Resolves}
-use Rattle.path.specs.declared.Resolved.the-variants.{From, Long}
+use Rattle.path.specs.Path.{resolve}
+use Rattle.resolve.specs.Resolve.{Resolves}
+use Rattle.resolve.specs.declared.Resolved.the-variants.{From, Long}
 use Rattle.link.specs.Target.{outside, placed, targetOf, rewriteTarget}
 use Rattle.link.specs.declared.target.Target.the-variants.{Untouched, Path}
 use Rattle.put.specs.Put.{sourceText, Inside, partOf, Able}

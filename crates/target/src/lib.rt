@@ -7,10 +7,10 @@ ghost use Rattle.put.specs.Put.{sourceText, Able, Wrote};
 ghost use Rattle.members.specs.Members.{memberAt, titleSource, AllStand};
 ghost use Rattle.target.specs.Titles.{titlesIn, Named, FoundMember, TitleIn, inside};
 use link::target::Target;
-use path::Resolved;
 use put::Put;
 use put::Room;
 use put::Source;
+use resolve::Resolved;
 use text::pattern;
 use text::pattern::Found;
 
