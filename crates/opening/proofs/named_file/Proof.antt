@@ -2,10 +2,10 @@
 use native.Mathlib.Omega.{arith}
 use mathlib.Core.Path.{sym, _∙_}
 use mathlib.Core.List.{[]}
-use Rattle.filling.proofs.FilesLaws.{find-row, named-top, named-absent, named-marked, named-spent, named-given}
+use Rattle.opening.proofs.FilesLaws.{find-row, named-top, named-absent, named-marked, named-spent, named-given}
 use borrow.Author.Needs.{needs}
-use Rattle.filling.proofs.named_file.Statement.{statement}
-use Rattle.filling.proofs.named_file.Tie as tie
+use Rattle.opening.proofs.named_file.Statement.{statement}
+use Rattle.opening.proofs.named_file.Tie as tie
 
 equals-requires : tie.Need-equals-requires
 equals-requires c κs = search needs

@@ -3,11 +3,11 @@ use native.Mathlib.Omega.{arith}
 use lib.ListN.{take}
 use mathlib.Core.Path.{sym, _∙_, ap}
 use Rattle.insertion.specs.Insertion.{readInserted}
-use Rattle.filling.specs.Filling.{entered}
-use Rattle.filling.proofs.TurnLaws.{entry-over, entry-headless, entry-named}
+use Rattle.opening.specs.Opening.{entered}
+use Rattle.opening.proofs.EntryLaws.{entry-over, entry-headless, entry-named}
 use borrow.Author.Needs.{needs}
-use Rattle.filling.proofs.open_region.Statement.{statement}
-use Rattle.filling.proofs.open_region.Tie as tie
+use Rattle.opening.proofs.open_region.Statement.{statement}
+use Rattle.opening.proofs.open_region.Tie as tie
 
 sub-put-block : tie.Need-sub-put-block
 sub-put-block c = search needs

@@ -17,9 +17,9 @@ use Rattle.index.specs.Rows.{rowAt, recordOf, recordsIn}
 use Rattle.index.specs.declared.rows.Row.{Row}
 use Rattle.index.proofs.RowsLaws.{files-length, records-length, row-forward, row-within, row-fits}
 use Rattle.chains.specs.Chains.{fileAt, nextNamed}
-use Rattle.filling.specs.Filling.{filesIn, Ready, namedOf, Lies}
-use Rattle.filling.specs.declared.Named.{Named}
-use Rattle.filling.specs.declared.Named.the-variants.{File as Names, Refused as Unnamed}
+use Rattle.opening.specs.Opening.{filesIn, Ready, namedOf, Lies}
+use Rattle.opening.specs.declared.Named.{Named}
+use Rattle.opening.specs.declared.Named.the-variants.{File as Names, Refused as Unnamed}
 use Rattle.chains.proofs.GrowLaws.{find-files, find-within}
 
 module _ (index rows contents : List ℕ) where

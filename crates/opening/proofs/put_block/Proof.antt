@@ -1,9 +1,9 @@
 -- `put_block` meets its contract. Assumes nothing.
 use native.Mathlib.Omega.{arith}
-use Rattle.filling.proofs.RoomLaws.{put-done, put-over}
+use Rattle.opening.proofs.BlockLaws.{put-done, put-over}
 use borrow.Author.Needs.{needs}
-use Rattle.filling.proofs.put_block.Statement.{statement}
-use Rattle.filling.proofs.put_block.Tie as tie
+use Rattle.opening.proofs.put_block.Statement.{statement}
+use Rattle.opening.proofs.put_block.Tie as tie
 
 sub-if1 : tie.Need-sub-if1
 sub-if1 c = search needs
