@@ -10,10 +10,10 @@ use Rattle.anchor.specs.Anchor.{slug}
 use Rattle.put.specs.Put.{sourceText}
 use Rattle.member.specs.Lines.{keptLines, leftOf, CursorIn}
 use Rattle.members.proofs.MembersLaws.{inside-part}
-use Rattle.shared.specs.Shared.{lineOf}
-use Rattle.shared.proofs.LineLaws.{first-in, first-left, line-none, line-hit, line-miss, part-fits, part-text}
-use Rattle.shared.proofs.anchor_line.Statement.{statement}
-use Rattle.shared.proofs.anchor_line.Tie as tie
+use Rattle.earlier.specs.Earlier.{lineOf}
+use Rattle.earlier.proofs.LineLaws.{first-in, first-left, line-none, line-hit, line-miss, part-fits, part-text}
+use Rattle.earlier.proofs.anchor_line.Statement.{statement}
+use Rattle.earlier.proofs.anchor_line.Tie as tie
 
 abbrev Inv-loop : tie.InvT-loop
 Inv-loop contents work text heading c₀ c =

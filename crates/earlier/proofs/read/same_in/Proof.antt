@@ -1,8 +1,8 @@
 -- `read::same_in` meets its contract, by where the source lies. Assumes nothing.
 use native.Mathlib.Omega.{arith}
 use borrow.Author.Needs.{needs}
-use Rattle.shared.proofs.read.same_in.Statement.{statement}
-use Rattle.shared.proofs.read.same_in.Tie as tie
+use Rattle.earlier.proofs.read.same_in.Statement.{statement}
+use Rattle.earlier.proofs.read.same_in.Tie as tie
 
 sub-same-as : tie.Need-sub-same-as
 sub-same-as c = search needs

@@ -1,8 +1,8 @@
 -- `read::same_as` meets its contract, by where the source lies. Assumes nothing.
 use native.Mathlib.Omega.{arith}
 use borrow.Author.Needs.{needs}
-use Rattle.shared.proofs.read.same_as.Statement.{statement}
-use Rattle.shared.proofs.read.same_as.Tie as tie
+use Rattle.earlier.proofs.read.same_as.Statement.{statement}
+use Rattle.earlier.proofs.read.same_as.Tie as tie
 
 sub-same-anchor : tie.Need-sub-same-anchor
 sub-same-anchor c = search needs

@@ -1,8 +1,8 @@
 -- `read::heading_in` meets its contract, by where the source lies. Assumes nothing.
 use native.Mathlib.Omega.{arith}
 use borrow.Author.Needs.{needs}
-use Rattle.shared.proofs.read.heading_in.Statement.{statement}
-use Rattle.shared.proofs.read.heading_in.Tie as tie
+use Rattle.earlier.proofs.read.heading_in.Statement.{statement}
+use Rattle.earlier.proofs.read.heading_in.Tie as tie
 
 sub-next-heading : tie.Need-sub-next-heading
 sub-next-heading c = search needs

@@ -10,9 +10,9 @@ use Rattle.anchor.specs.Anchor.{slug}
 use Rattle.put.specs.Put.{sourceText}
 use Rattle.members.specs.Members.{textSource}
 use Rattle.members.proofs.MembersLaws.{text-inside, inside-more}
-use Rattle.shared.proofs.EarlierLaws.{stands-at, Searched, search-start, search-end, search-own, search-without, search-with}
-use Rattle.shared.proofs.earlier.Statement.{statement}
-use Rattle.shared.proofs.earlier.Tie as tie
+use Rattle.earlier.proofs.EarlierLaws.{stands-at, Searched, search-start, search-end, search-own, search-without, search-with}
+use Rattle.earlier.proofs.earlier.Statement.{statement}
+use Rattle.earlier.proofs.earlier.Tie as tie
 
 abbrev Inv-loop : tie.InvT-loop
 Inv-loop index contents work set i heading table a e q₀ q = Searched index contents work set (slug (sourceText heading contents work)) i q
