@@ -1,8 +1,8 @@
--- `pointer::read::anchor_in` meets its contract: the title is read where it lies. Assumes nothing.
+-- `sources::anchor_in` meets its contract: the title is read where it lies. Assumes nothing.
 use native.Mathlib.Omega.{arith}
 use borrow.Author.Needs.{needs}
-use Rattle.pointer.proofs.read.anchor_in.Statement.{statement}
-use Rattle.pointer.proofs.read.anchor_in.Tie as tie
+use Rattle.sources.proofs.anchor_in.Statement.{statement}
+use Rattle.sources.proofs.anchor_in.Tie as tie
 
 sub-start : tie.Need-sub-start
 sub-start c = search needs

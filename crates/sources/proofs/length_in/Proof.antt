@@ -1,8 +1,8 @@
--- `pointer::read::length_in` meets its contract: the path is read where it lies. Assumes nothing.
+-- `sources::length_in` meets its contract: the path is read where it lies. Assumes nothing.
 use native.Mathlib.Omega.{arith}
 use borrow.Author.Needs.{needs}
-use Rattle.pointer.proofs.read.length_in.Statement.{statement}
-use Rattle.pointer.proofs.read.length_in.Tie as tie
+use Rattle.sources.proofs.length_in.Statement.{statement}
+use Rattle.sources.proofs.length_in.Tie as tie
 
 sub-resolved-length : tie.Need-sub-resolved-length
 sub-resolved-length c = search needs

@@ -1,8 +1,8 @@
--- `pointer::read::byte_in` meets its contract: the title is read where it lies. Assumes nothing.
+-- `sources::byte_in` meets its contract: the title is read where it lies. Assumes nothing.
 use native.Mathlib.Omega.{arith}
 use borrow.Author.Needs.{needs}
-use Rattle.pointer.proofs.read.byte_in.Statement.{statement}
-use Rattle.pointer.proofs.read.byte_in.Tie as tie
+use Rattle.sources.proofs.byte_in.Statement.{statement}
+use Rattle.sources.proofs.byte_in.Tie as tie
 
 sub-next : tie.Need-sub-next
 sub-next c = search needs

@@ -1,8 +1,8 @@
--- `pointer::read::target_in` meets its contract: the target is taken apart where it lies. Assumes nothing.
+-- `sources::target_in` meets its contract: the target is taken apart where it lies. Assumes nothing.
 use native.Mathlib.Omega.{arith}
 use borrow.Author.Needs.{needs}
-use Rattle.pointer.proofs.read.target_in.Statement.{statement}
-use Rattle.pointer.proofs.read.target_in.Tie as tie
+use Rattle.sources.proofs.target_in.Statement.{statement}
+use Rattle.sources.proofs.target_in.Tie as tie
 
 sub-read-target : tie.Need-sub-read-target
 sub-read-target c = search needs
