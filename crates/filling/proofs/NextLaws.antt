@@ -12,7 +12,7 @@ use Rattle.text.specs.Bytes.{part}
 use Rattle.index.specs.Index.{File, fileOf}
 use Rattle.walk.specs.Steps.{Judged, refused, judge}
 use Rattle.regions.specs.Regions.{scanned}
-use Rattle.regions.specs.Hosts.{surveyOf, startCursor, hostRest, HostAt, regionAt, WholeHost, LastHost}
+use Rattle.regions.specs.Hosts.{startCursor, hostRest, HostAt, regionAt, WholeHost, LastHost}
 use Rattle.regions.specs.declared.host.HostCursor.{HostCursor}
 use Rattle.regions.specs.declared.host.Opening.{Opening}
 use Rattle.opening.specs.declared.Filling.{Filling}
@@ -24,7 +24,6 @@ use Rattle.chains.specs.Fill.{walk, walkRest, filled}
 use Rattle.opening.specs.Opening.{namedOf, Entry, enters, barred, entryOf}
 use Rattle.filling.specs.Filling.{readFilled, withFiles, chainTo, restAt, Running, Turned, IsInto, IsDone, FilledWithin}
 use Rattle.regions.proofs.HostLaws.{host-start}
-use Rattle.regions.proofs.SurveyLaws.{survey-regions}
 use Rattle.filling.proofs.TakenLaws.{fill-wrong, fill-none, fill-walk}
 use Rattle.chains.proofs.GrowLaws.{next-free}
 use Rattle.opening.proofs.EntryLaws.{entry-enters}

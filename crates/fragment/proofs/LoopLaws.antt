@@ -11,9 +11,10 @@ use Rattle.text.specs.Bytes.{part}
 use Rattle.index.specs.Index.{File, fileOf}
 use Rattle.walk.specs.Steps.{Judged, refused, judge}
 use Rattle.regions.specs.Regions.{scanned}
-use Rattle.regions.specs.declared.survey.Surveyed.{Surveyed}
-use Rattle.regions.specs.declared.survey.Surveyed.the-variants.{Wrong, NoRegion as Bare, Regions as Some}
-use Rattle.regions.specs.Hosts.{surveyOf, startCursor, hostRest, HostAt, regionAt, WholeHost, LastHost}
+use Rattle.survey.specs.declared.Surveyed.{Surveyed}
+use Rattle.survey.specs.declared.Surveyed.the-variants.{Wrong, NoRegion as Bare, Regions as Some}
+use Rattle.survey.specs.Surveys.{surveyOf}
+use Rattle.regions.specs.Hosts.{startCursor, hostRest, HostAt, regionAt, WholeHost, LastHost}
 use Rattle.regions.specs.declared.host.HostCursor.{HostCursor}
 use Rattle.regions.specs.declared.host.Opening.{Opening}
 use Rattle.opening.specs.declared.Filling.{Filling}
@@ -28,7 +29,7 @@ use Rattle.opening.specs.Opening.{namedOf, Entry, enters, barred, entryOf}
 use Rattle.filling.specs.Filling.{readFilled, withFiles, chainTo, restAt, Running, Turned, IsInto, IsDone, FilledWithin}
 use Rattle.taking.specs.Stands.{firstOf, afterOf}
 use Rattle.regions.proofs.HostLaws.{host-start}
-use Rattle.regions.proofs.SurveyLaws.{survey-regions}
+use Rattle.survey.proofs.SurveyLaws.{survey-regions}
 use Rattle.filling.proofs.TakenLaws.{fill-wrong, fill-none, fill-walk}
 use Rattle.chains.proofs.GrowLaws.{next-free}
 use Rattle.opening.proofs.EntryLaws.{entry-enters}

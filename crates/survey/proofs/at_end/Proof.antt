@@ -1,8 +1,8 @@
--- `regions::survey::at_end` meets its contract: each arm by the region that was matched. Assumes nothing.
--- `regions::survey::at_end` meets its contract: each arm by the region that was matched. Assumes nothing.
+-- `survey::at_end` meets its contract: each arm by the region that was matched. Assumes nothing.
+-- `survey::at_end` meets its contract: each arm by the region that was matched. Assumes nothing.
 use borrow.Author.Needs.{needs}
-use Rattle.regions.proofs.survey.at_end.Statement.{statement}
-use Rattle.regions.proofs.survey.at_end.Tie as tie
+use Rattle.survey.proofs.at_end.Statement.{statement}
+use Rattle.survey.proofs.at_end.Tie as tie
 
 enum-known-region : tie.Need-enum-known-region
 enum-known-region c = search needs

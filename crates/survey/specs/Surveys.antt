@@ -1,5 +1,5 @@
 -- What a survey gathers, event by event. Nothing here is document 01's: inner functions promise it, and the laws of `proofs/SurveyLaws.antt` tie it to
--- `Regions.antt`.
+-- `Regions.antt` of `regions`.
 use Prim.Native.Nat.{ℕ}
 use mathlib.Core.Bool.{Bool, true, false, cond}
 use mathlib.Core.List.{List, [], _∷_}
@@ -12,9 +12,15 @@ use Rattle.scan.specs.declared.event.Event.{Event}
 use Rattle.scan.specs.declared.event.Event.the-variants.{OfSpan, OfRegion, OfProblem}
 use Rattle.scan.specs.declared.state.OpenRegion.{OpenRegion}
 use Rattle.scan.specs.declared.state.OpenRegion.the-variants.{Closed, Open}
-use Rattle.regions.specs.Regions.{refusalOf}
-use Rattle.regions.specs.declared.survey.Surveyed.{Surveyed}
-use Rattle.regions.specs.declared.survey.Surveyed.the-variants.{Wrong, NoRegion, Regions}
+use Rattle.regions.specs.Regions.{Scanned, problem, noRegion, regions, refusalOf}
+use Rattle.survey.specs.declared.Surveyed.{Surveyed}
+use Rattle.survey.specs.declared.Surveyed.the-variants.{Wrong, NoRegion, Regions}
+
+-- what a survey answers
+abbrev pub surveyOf : Scanned → Surveyed
+surveyOf (problem x xs rs) = Wrong x
+surveyOf (noRegion s) = NoRegion
+surveyOf (regions rs) = Regions
 
 -- the first refusal, or what follows
 abbrev pub wrongOr : List Refusal → Surveyed → Surveyed

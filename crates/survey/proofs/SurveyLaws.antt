@@ -39,12 +39,12 @@ use Rattle.scan.specs.declared.state.OpenRegion.the-variants.{Closed, Open}
 use Rattle.scan.specs.declared.state.State.{State}
 use Rattle.scan.proofs.ScanLaws.{sought-line, sought-end}
 use Rattle.index.specs.Index.{File, fileOf}
 use Rattle.regions.specs.Regions as regions
 use Rattle.regions.specs.Regions.{refusalOf, problemsOf, regionsFrom, scannedBy, scanned}
-use Rattle.regions.specs.Hosts.{surveyOf, hostRest, startCursor}
-use Rattle.regions.specs.Surveys.{wrongOr, surveyFrom, faultOf, closes, surveyEnd}
-use Rattle.regions.specs.declared.survey.Surveyed.{Surveyed}
-use Rattle.regions.specs.declared.survey.Surveyed.the-variants.{Wrong, NoRegion, Regions}
+use Rattle.survey.specs.Surveys.{surveyOf, wrongOr, surveyFrom, faultOf, closes, surveyEnd}
+use Rattle.regions.specs.Hosts.{hostRest, startCursor}
+use Rattle.survey.specs.declared.Surveyed.{Surveyed}
+use Rattle.survey.specs.declared.Surveyed.the-variants.{Wrong, NoRegion, Regions}
 
 -- the problems of spans are none of 1 to 5
 abbrev LateMark : Mark → Type 0

@@ -1,4 +1,4 @@
--- `regions::survey::survey` meets its contract. The invariant: what a scan from place a on finds, with the regions found so far, gives the whole survey. Assumes nothing.
+-- `survey::survey` meets its contract. The invariant: what a scan from place a on finds, with the regions found so far, gives the whole survey. Assumes nothing.
 use Prim.Native.Nat.{_+_, _-_, _≤_}
 use mathlib.Core.Path.{_≡_, sym, _∙_}
 use mathlib.Core.Bool.{false}
@@ -8,10 +8,10 @@ use borrow.Author.Needs.{needs}
 use Rattle.text.specs.Lines.{linesFrom}
 use Rattle.text.proofs.BytesLaws.{part-length}
 use Rattle.scan.specs.Scan.{scan, scanFrom}
-use Rattle.regions.specs.Surveys.{surveyFrom}
-use Rattle.regions.proofs.SurveyLaws.{survey-on, survey-nested, survey-marker, survey-end, survey-scanned}
-use Rattle.regions.proofs.survey.survey.Statement.{statement}
-use Rattle.regions.proofs.survey.survey.Tie as tie
+use Rattle.survey.specs.Surveys.{surveyFrom}
+use Rattle.survey.proofs.SurveyLaws.{survey-on, survey-nested, survey-marker, survey-end, survey-scanned}
+use Rattle.survey.proofs.survey.Statement.{statement}
+use Rattle.survey.proofs.survey.Tie as tie
 
 abbrev Inv-loop : tie.InvT-loop
 Inv-loop s file any₀ st₀ a₀ n₀ any st a n =
