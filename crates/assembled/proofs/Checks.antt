@@ -22,7 +22,8 @@ use Rattle.walk.specs.Steps.{go, judge}
 use Rattle.shift.specs.Shift.{toldFrom, pastFrom, upTo}
 use Rattle.assembled.specs.Assemble.{prepareAll, emitAll, assemble}
 use Rattle.member.specs.Member.{withoutContents, preparedLines, titleOf, prepare, movable}
-use Rattle.shared.specs.Shared.{lineOf, earlier, sharedIn, sharedFrom}
+use Rattle.earlier.specs.Earlier.{lineOf, earlier}
+use Rattle.shared.specs.Shared.{sharedIn, sharedFrom}
 use Rattle.target.specs.Titles.{titleNamed}
 use Rattle.emitted.specs.Emit.{emit}
 

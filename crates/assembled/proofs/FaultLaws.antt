@@ -18,7 +18,8 @@ use Rattle.walk.proofs.FaultLaws.{allFaults, all-append}
 use Rattle.shift.specs.Shift.{Told}
 use Rattle.chains.proofs.FaultLaws.{past-fault, unless-fault}
 use Rattle.member.specs.Member.{Prepared, titleOf, titled, preparedLines, prepare}
-use Rattle.shared.specs.Shared.{earlier, sharedAt, sharedLine, sharedIn, sharedFrom}
+use Rattle.earlier.specs.Earlier.{earlier}
+use Rattle.shared.specs.Shared.{sharedAt, sharedLine, sharedIn, sharedFrom}
 use Rattle.target.specs.Titles.{titleNamed}
 use Rattle.emitted.specs.Emit.{emit}
 use Rattle.assembled.specs.Assembled.{eachFaults, eachMade, present, preparedFaults, assemblyFaults}

@@ -26,7 +26,8 @@ use Rattle.walk.proofs.HoldLaws.{Each, each-append, Holds, holds-go, holds-unle
 use Rattle.shift.specs.Shift.{Told}
 use Rattle.chains.proofs.PlaceLaws.{past-places}
 use Rattle.member.specs.Member.{Prepared, titleOf, titled, preparedLines, prepare}
-use Rattle.shared.specs.Shared.{lineOf, earlier, sharedAt, sharedLine, sharedIn, sharedFrom, compare}
+use Rattle.earlier.specs.Earlier.{lineOf, earlier}
+use Rattle.shared.specs.Shared.{sharedAt, sharedLine, sharedIn, sharedFrom, compare}
 use Rattle.target.specs.Titles.{titleNamed}
 use Rattle.emitted.specs.Emit.{emit, joinLines}
 use Rattle.assembled.specs.Assemble.{prepareAll, emitAll, assemble}

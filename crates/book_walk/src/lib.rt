@@ -8,7 +8,7 @@ ghost use Rattle.fileset.specs.Members.{members};
 ghost use Rattle.fileset.specs.declared.check.Checked.the-variants.{Passed};
 ghost use Rattle.walk.specs.Outcome.{outcome};
 ghost use Rattle.walk.specs.Steps.{judge};
-ghost use Rattle.filling.specs.Filling.{filesIn};
+ghost use Rattle.opening.specs.Opening.{filesIn};
 ghost use Rattle.members.specs.Members.{filesFrom};
 ghost use Rattle.book.specs.BookWalk.{book};
 ghost use Rattle.made.specs.Made.{bookOf, CanMake};

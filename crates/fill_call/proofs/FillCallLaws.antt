@@ -24,7 +24,8 @@ use Rattle.book.specs.Calls.{fillOutcome}
 use Rattle.give.specs.Given.{readAnswer, Fits}
 use Rattle.fill_call.specs.Answered.{answered}
 use Rattle.filling.proofs.RoomLaws.{free-none}
-use Rattle.filling.specs.Filling.{readFilled, Ready, FilledWithin}
+use Rattle.opening.specs.Opening.{Ready}
+use Rattle.filling.specs.Filling.{readFilled, FilledWithin}
 
 -- a fill's own answer, read
 pub filled-read : (r : Filled) (w : List ℕ) → readFilled r w ≡ readAnswer (answered r) w

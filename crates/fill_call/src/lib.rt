@@ -9,7 +9,7 @@ use fileset::check;
 use fileset::check::Checked;
 use fileset::check::Sizes;
 use filling::Filled;
-use filling::Filling;
+use opening::Filling;
 
 fn answer_of(got: Filled) -> Answer
     ensures { λ r. ⌜ r ≡ answered got ⌝ }

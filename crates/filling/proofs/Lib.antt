@@ -1,4 +1,3 @@
-pub mod FilesLaws
 pub mod TurnLaws
 pub mod TakenLaws
 pub mod RoomLaws

@@ -12,21 +12,22 @@ use Rattle.text.specs.Bytes.{part}
 use Rattle.index.specs.Index.{File, fileOf}
 use Rattle.walk.specs.Steps.{Judged, refused, judge}
 use Rattle.regions.specs.Regions.{scanned}
-use Rattle.regions.specs.Hosts.{surveyOf, startCursor, hostRest, HostAt, regionAt, WholeHost, LastHost}
+use Rattle.regions.specs.Hosts.{startCursor, hostRest, HostAt, regionAt, WholeHost, LastHost}
 use Rattle.regions.specs.declared.host.HostCursor.{HostCursor}
 use Rattle.regions.specs.declared.host.Opening.{Opening}
-use Rattle.filling.specs.declared.Filling.{Filling}
+use Rattle.opening.specs.declared.Filling.{Filling}
 use Rattle.filling.specs.declared.Filled.{Filled}
 use Rattle.filling.specs.declared.Filled.the-variants.{Text, NoRegion, Refused}
 use Rattle.chains.specs.Chains.{Rest, fileAt, next, through, chain, nextNamed}
 use Rattle.walk.specs.Outcome.{Outcome, refusal, outcome}
 use Rattle.chains.specs.Fill.{walk, walkRest, filled}
-use Rattle.filling.specs.Filling.{readFilled, withFiles, namedOf, Entry, enters, barred, entryOf, chainTo, restAt, Running, Turned, IsInto, IsDone, FilledWithin}
+use Rattle.opening.specs.Opening.{namedOf, Entry, enters, barred, entryOf}
+use Rattle.filling.specs.Filling.{readFilled, withFiles, chainTo, restAt, Running, Turned, IsInto, IsDone, FilledWithin}
 use Rattle.regions.proofs.HostLaws.{host-start}
-use Rattle.regions.proofs.SurveyLaws.{survey-regions}
 use Rattle.filling.proofs.TakenLaws.{fill-wrong, fill-none, fill-walk}
 use Rattle.chains.proofs.GrowLaws.{next-free}
-use Rattle.filling.proofs.TurnLaws.{running-start, turn-last, turn-barred, turn-on, entry-enters}
+use Rattle.opening.proofs.EntryLaws.{entry-enters}
+use Rattle.filling.proofs.TurnLaws.{running-start, turn-last, turn-barred, turn-on}
 
 -- what a region comes to before its file
 abbrev pub entryAt : List File → List ℕ → List Bool → List ℕ → Filling → List ℕ → ℕ → Opening → Entry

@@ -1,4 +1,4 @@
--- The buffer of a fill: a part that is lent and comes back, bytes put behind a text, and room for each file not on the chain. Assumes nothing.
+-- The buffer of a fill: a part that is lent and comes back, and room for each file not on the chain. Assumes nothing.
 use Prim.Native.Nat.{ℕ, zero, suc, _+_, _-_, _*_, _≤_, _<_}
 use native.Mathlib.Nat.{suc-mul}
 use native.Mathlib.Omega.{arith}
@@ -6,12 +6,8 @@ use mathlib.Core.Path.{_≡_, refl, _∙_, ap}
 use mathlib.Core.Bool.{Bool, true, false}
 use mathlib.Core.List.{List, _++_, append-nil}
 use lib.ListN.{length, getD, take, drop, set, replicate, length-append, length-drop, drop-of-length-le}
-use lib.Seq.{sets, sets-eq, length-take-le, take-all, take-append-le, take-take, take-at, drop-at, take-set-lt, getD-take}
-use borrow.Author.Tests.{le-leb, lt-leb}
-use Rattle.answer.specs.declared.Place.{Place}
-use Rattle.answer.specs.declared.Refusal.the-variants.{TextLimit}
+use lib.Seq.{length-take-le, take-all, take-append-le, take-take, drop-at, take-set-lt, getD-take}
 use Rattle.text.specs.Bytes.{part}
-use Rattle.insertion.specs.Insertion.{joined, stopped, tested}
 use Rattle.chains.specs.Chains.{free}
 use Rattle.chains.proofs.GrowLaws.{free-set}
 
@@ -41,27 +37,6 @@ lent-all w limit = take-all (length w - limit) (drop limit w) (omega (arith, len
 
 pub lent-length : (w : List ℕ) (limit : ℕ) → limit ≤ length w → length (take (length w - limit) (drop limit w)) ≡ length w - limit
 lent-length w limit h = length-take-le (length w - limit) (drop limit w) (omega (arith, length-drop limit w))
-
--- ---- bytes put behind a text, or no room
-
-module _ (L : ℕ) (p : Place) (w s : List ℕ) (len : ℕ) where
-  put-length : len ≤ length w → length (take len w ++ s) ≡ len + length s
-  put-length h = length-append (take len w) s ∙ ap (λ (n : ℕ). n + length s) (length-take-le len w h)
-
-  put-in : len + length s ≤ L → L ≤ length w → joined (take (len + length s) (sets w len s)) ≡ tested L p (take len w ++ s)
-  put-in h k =
-      let e : length (take len w ++ s) ≡ len + length s = put-length (omega arith) in
-      ap joined (ap (take (len + length s)) (sets-eq s w len (omega arith)) ∙ take-at (take len w ++ s) (drop (len + length s) w) (len + length s) e)
-      ∙ rw (le-leb (length (take len w ++ s)) L (omega arith))
-
-  -- what a copy leaves and answers
-  pub put-done : (y : List ℕ) (r : ℕ) → len + length s ≤ L → L ≤ length w → y ≡ sets w len s → r ≡ len + length s → (joined (take r y) ≡ tested L p (take len w ++ s)) × (r ≤ L)
-  put-done y r h k e i = (rw (e, i) (put-in h k), omega arith)
-
-  pub put-over : len ≤ length w → L < len + length s → stopped (TextLimit p) ≡ tested L p (take len w ++ s)
-  put-over h k =
-      let e : length (take len w ++ s) ≡ len + length s = put-length h in
-      rw (lt-leb (length (take len w ++ s)) L (omega arith))
 
 -- ---- room for each file not on the chain
 

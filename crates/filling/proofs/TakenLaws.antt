@@ -18,9 +18,9 @@ use Rattle.walk.specs.Parts.{Part}
 use Rattle.walk.specs.Steps.{Judged, given, refused, judge}
 use Rattle.shift.specs.Shift.{Told, toldFrom, dropStart, dropEnd, toldLines}
 use Rattle.regions.specs.Regions.{Regions, behind, region, regionsFrom, ownKinds, Scanned, problem, noRegion as unmarked, regions, problemsOf, scannedBy, hostRegions, scanned}
-use Rattle.regions.specs.Hosts.{surveyOf}
-use Rattle.regions.specs.declared.survey.Surveyed.the-variants.{Wrong, NoRegion as Bare}
-use Rattle.regions.proofs.SurveyLaws.{survey-problem, survey-none}
+use Rattle.survey.specs.Surveys.{surveyOf}
+use Rattle.survey.specs.declared.Surveyed.the-variants.{Wrong, NoRegion as Bare}
+use Rattle.survey.proofs.SurveyLaws.{survey-problem, survey-none}
 use Rattle.embedding.specs.Embed.{embeddedLines, embedTold}
 use Rattle.embedding.specs.Unmarked.{Unmarked}
 use Rattle.insertion.specs.Insertion.{insertedOf}

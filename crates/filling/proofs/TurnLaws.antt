@@ -6,7 +6,6 @@ use mathlib.Core.Bool.{Bool, true, false, cond}
 use mathlib.Core.List.{List, [], _∷_, _++_}
 use lib.Dec.{leb, ltb}
 use lib.ListN.{length, getD, length-append}
-use borrow.Author.Tests.{ltb-true}
 use Rattle.answer.specs.declared.Place.{Place}
 use Rattle.answer.specs.declared.Refusal.{Refusal}
 use Rattle.answer.specs.declared.Refusal.the-variants.{PeerWithoutHeading, OnChain, Allowance, TextLimit}
@@ -25,14 +24,15 @@ use Rattle.walk.proofs.StepsLaws.{judgeThen}
 use Rattle.regions.specs.Regions.{HostRegion, Regions, behind, region}
 use Rattle.embedding.specs.Embed.{embed, embedTold, embeddedLines}
 use Rattle.insertion.specs.Insertion.{joined, stopped, insertedOf, tested}
-use Rattle.filling.specs.declared.Named.{Named}
-use Rattle.filling.specs.declared.Named.the-variants.{File as Names, Refused as Unnamed}
+use Rattle.opening.specs.declared.Named.the-variants.{File as Names, Refused as Unnamed}
 use Rattle.chains.specs.Chains.{Chain, Rest, fileAt, Next, stop, on, next, nextFound, through, textOf, nextNamed}
 use Rattle.walk.specs.Outcome.{Outcome, text, noRegion, refusal, outcome}
 use Rattle.chains.specs.Fill.{walk, walkRest}
-use Rattle.filling.specs.Filling.{withFiles, namedOf, Entry, enters, barred, entered, joinedEntry, entryOf, embeddedBy, Running, Turned}
+use Rattle.opening.specs.Opening.{namedOf, Entry, enters, barred, entered, joinedEntry, entryOf}
+use Rattle.filling.specs.Filling.{withFiles, embeddedBy, Running, Turned}
 use Rattle.chains.proofs.FillLaws.{orFault, fitting, judgeAfter, judgeNext, judge-region, judge-last}
 use Rattle.chains.proofs.GrowLaws.{find-name}
+use Rattle.opening.proofs.EntryLaws.{entry-enters}
 
 clash : true ≡ false → ⊥
 clash e = let z : _≡_ {A = ℕ} 0 1 = cc in omega arith
@@ -51,44 +51,6 @@ next-name S top m p name d e = at-name (equals top name) (findFile name S) refl 
     at-name true o q h = let z : _≡_ {A = ℕ} 0 1 = cc in absurd (omega arith)
     at-name false (At k) q h = at-mark k (getD m k false) q h
     at-name false Nothing q h = let z : _≡_ {A = ℕ} 0 1 = cc in absurd (omega arith)
-
--- an entry, test by test
-module _ (L : ℕ) (p : Place) (headless : Bool) (t : List ℕ) (r : Named) where
-  pub entry-over : {x : Refusal} → stopped x ≡ tested L p t → barred x ≡ entryOf L p headless t r
-  unfolding entryOf
-  entry-over e = rw (← e)
-
-  module _ {u : List ℕ} (e : joined u ≡ tested L p t) where
-    pub entry-headless : headless ≡ true → barred (PeerWithoutHeading p) ≡ entryOf L p headless t r
-    unfolding entryOf
-    entry-headless h = rw (← e, h)
-
-    pub entry-named : headless ≡ false → entered u r ≡ entryOf L p headless t r
-    unfolding entryOf
-    entry-named h = rw (← e, h)
-
--- what stands behind an entry: the text, where the region leads, and room in the allowance
-pub record Enters (B n : ℕ) (t u : List ℕ) (y : Next) (d : ℕ) : Type 0 where
-  pub same : u ≡ t
-  pub leads : y ≡ on d
-  pub allowed : n < B
-
-pub entry-enters : (B L n : ℕ) (p : Place) (headless : Bool) (t u : List ℕ) (y : Next) (d : ℕ) → entryOf L p headless t (namedOf B n p y) ≡ enters u d → Enters B n t u y d
-unfolding entryOf
-entry-enters B L n p headless t u y d e = at-size (leb (length t) L) headless y e
-  where
-    at-next : (y : Next) → entered t (namedOf B n p y) ≡ enters u d → Enters B n t u y d
-    at-next (stop x) e = let z : _≡_ {A = ℕ} 0 1 = cc in absurd (omega arith)
-    at-next (on k) e = at-test (ltb n B) refl e
-      where
-        at-test : (b : Bool) → ltb n B ≡ b → entered t (cond b (Names k) (Unnamed (Allowance p))) ≡ enters u d → Enters B n t u (on k) d
-        at-test true q h = let i : k ≡ d = cc in record { same = cc; leads = rw i; allowed = ltb-true n B q }
-        at-test false q h = let z : _≡_ {A = ℕ} 0 1 = cc in absurd (omega arith)
-
-    at-size : (a b : Bool) (y : Next) → joinedEntry (cond a (joined t) (stopped (TextLimit p))) (λ v. cond b (barred (PeerWithoutHeading p)) (entered v (namedOf B n p y))) ≡ enters u d → Enters B n t u y d
-    at-size true true y h = let z : _≡_ {A = ℕ} 0 1 = cc in absurd (omega arith)
-    at-size true false y h = at-next y h
-    at-size false b y h = let z : _≡_ {A = ℕ} 0 1 = cc in absurd (omega arith)
 
 -- `headed`, by a region's faults
 abbrev allows : List Refusal → Part (List (List ℕ))

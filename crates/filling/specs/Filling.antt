@@ -1,39 +1,28 @@
 -- Filling, for the functions. Nothing here is document 01's: inner functions promise it, and the laws of `proofs/` tie it to the walk.
 use Prim.Native.Nat.{ℕ, suc, _+_, _*_, _≤_, _<_}
 use mathlib.Core.Path.{_≡_}
-use mathlib.Core.Bool.{Bool, true, false, cond}
-use mathlib.Core.List.{List, [], _++_}
-use lib.Dec.{leb, ltb}
+use mathlib.Core.Bool.{Bool, true, false}
+use mathlib.Core.List.{List, []}
 use lib.ListN.{length, take, getD, set}
 use Rattle.answer.specs.Answer.{place}
 use Rattle.answer.specs.declared.Place.{Place}
-use Rattle.answer.specs.declared.Refusal.{Refusal}
-use Rattle.answer.specs.declared.Refusal.the-variants.{PeerWithoutHeading, OnChain, Allowance, TextLimit}
 use Rattle.text.specs.Lines.{pieces}
-use Rattle.text.specs.Pattern.{equals}
-use Rattle.index.specs.Index.{File, fileOf, filesFrom, findFile}
-use Rattle.index.specs.Rows.{recordsIn, AreNamed, AreWithin}
+use Rattle.index.specs.Index.{File, fileOf}
+use Rattle.index.specs.Rows.{AreNamed}
 use Rattle.regions.specs.Hosts.{HostAt, hostRest}
 use Rattle.regions.specs.declared.host.HostCursor.{HostCursor}
-use Rattle.regions.specs.declared.host.Opening.{Opening}
-use Rattle.index.specs.declared.rows.Row.{Row}
-use Rattle.heading.specs.Walk.{walkBegin}
-use Rattle.shift.specs.Shift.{Told, toldFrom, dropStart, dropEnd, toldLines}
+use Rattle.shift.specs.Shift.{Told, toldLines}
 use Rattle.walk.specs.Parts.{Part}
 use Rattle.walk.specs.Steps.{Judged, given, refused, judge}
 use Rattle.embedding.specs.Embed.{embeddedLines, embedTold}
-use Rattle.insertion.specs.Insertion.{Joined, joined, stopped, insertedOf, tested}
+use Rattle.insertion.specs.Insertion.{Joined, joined, stopped, insertedOf}
 use Rattle.filling.specs.declared.Filled.{Filled}
 use Rattle.filling.specs.declared.Filled.the-variants.{Text, NoRegion, Refused}
-use Rattle.filling.specs.declared.Named.{Named}
-use Rattle.filling.specs.declared.Named.the-variants.{File as Names, Refused as Unnamed}
-use Rattle.filling.specs.declared.Opened.{Opened}
-use Rattle.filling.specs.declared.Opened.the-variants.{Onto, Refused as Barred}
 use Rattle.filling.specs.declared.NextFile.{NextFile}
 use Rattle.filling.specs.declared.NextFile.the-variants.{Into, Done}
-use Rattle.filling.specs.declared.Filling.{Filling}
+use Rattle.opening.specs.declared.Filling.{Filling}
 use Rattle.filling.specs.declared.Spot.{Spot}
-use Rattle.chains.specs.Chains.{Chain, Rest, Next, stop, on, nextFound, fileAt, through, free, chain, textOf}
+use Rattle.chains.specs.Chains.{Chain, Rest, fileAt, through, free, chain, textOf}
 use Rattle.walk.specs.Outcome.{Outcome, text, noRegion, refusal, outcome}
 use Rattle.chains.specs.Fill.{walk, walkRest}
 
@@ -42,16 +31,6 @@ abbrev pub readFilled : Filled → List ℕ → Outcome
 readFilled (Text n f) w = text (take n w) f
 readFilled NoRegion w = noRegion
 readFilled (Refused x) w = refusal x
-
--- the file set that n rows tell of
-abbrev pub filesIn : List ℕ → List ℕ → List ℕ → ℕ → List File
-filesIn index rows contents n = filesFrom 1 contents (recordsIn index rows 0 n)
-
--- n rows that tell of files in contents of so many bytes
-pub record Ready (index rows : List ℕ) (room n : ℕ) : Type 0 where
-  pub few : n ≤ 64
-  pub named : AreNamed index rows n
-  pub within : AreWithin room rows n
 
 -- the text of an answer is within the limit
 abbrev pub FilledWithin : Filled → ℕ → Type 0
@@ -63,36 +42,6 @@ FilledWithin (Refused x) limit = Unit {0}
 abbrev pub withFiles : ℕ → Joined → Outcome
 withFiles n (joined t) = text t n
 withFiles n (stopped x) = refusal x
-
--- 13, 14, then 15, where n files are taken in before
-abbrev pub namedOf : ℕ → ℕ → Place → Next → Named
-namedOf B n p (stop x) = Unnamed x
-namedOf B n p (on d) = cond (ltb n B) (Names d) (Unnamed (Allowance p))
-
--- what a region comes to before its file is filled: the text through the opener and the file, or a refusal
-pub data Entry : Type 0 where
-  enters : List ℕ → ℕ → Entry
-  barred : Refusal → Entry
-
-abbrev pub readOpened : Opened → List ℕ → Entry
-readOpened (Onto d n) w = enters (take n w) d
-readOpened (Barred x) w = barred x
-
-abbrev pub OpenedWithin : Opened → ℕ → Type 0
-OpenedWithin (Onto d n) limit = n ≤ limit
-OpenedWithin (Barred x) limit = Unit {0}
-
-abbrev pub entered : List ℕ → Named → Entry
-entered t (Names d) = enters t d
-entered t (Unnamed x) = barred x
-
-abbrev pub joinedEntry : Joined → (List ℕ → Entry) → Entry
-joinedEntry (joined t) k = k t
-joinedEntry (stopped x) k = barred x
-
--- 17 for the text t, 12, then 13, 14 and 15
-unfoldable pub entryOf : ℕ → Place → Bool → List ℕ → Named → Entry
-entryOf L p headless t r = joinedEntry (tested L p t) (λ u. cond headless (barred (PeerWithoutHeading p)) (entered u r))
 
 -- the chain that goes on to the file d
 abbrev pub chainTo : List File → List ℕ → List Bool → ℕ → Chain
@@ -153,17 +102,6 @@ FoundNext S top m s at c t (Done r) w = IsDone S top m s at c t (readFilled r w)
 
 -- ---- what callers have to show
 
--- a region can be opened: the rows can be read, the block and the path lie in a host of k bytes, and the limit in a buffer of w bytes
-pub record CanOpen (index rows : List ℕ) (n k from : ℕ) (o : Opening) (len limit w : ℕ) : Type 0 where
-  pub few : n ≤ 64
-  pub named : AreNamed index rows n
-  pub forward : from ≤ o .end
-  pub within : o .end ≤ k
-  pub pathForward : o .path .start ≤ o .path .end
-  pub pathWithin : o .path .end ≤ k
-  pub fits : len ≤ limit
-  pub room : limit ≤ w
-
 -- a fill can go on from cursor c: the rows can be read, and the limit lies in a buffer of w bytes
 pub record CanGo (index rows : List ℕ) (n : ℕ) (s : List ℕ) (c : HostCursor) (len limit w : ℕ) : Type 0 where
   pub few : n ≤ 64
@@ -171,12 +109,6 @@ pub record CanGo (index rows : List ℕ) (n : ℕ) (s : List ℕ) (c : HostCurso
   pub cursor : HostAt s c
   pub fits : len ≤ limit
   pub room : limit ≤ w
-
--- the row of a file: its name lies in an index of k bytes, and its text in contents of so many bytes
-pub record Lies (k room : ℕ) (r : Row) : Type 0 where
-  pub forward : r .name ≤ r .end
-  pub within : r .end ≤ k
-  pub fits : r .start + r .size ≤ room
 
 -- what a fill gave can be embedded: its text lies past the limit
 pub record CanTake (got : Filled) (target len limit w : ℕ) : Type 0 where

@@ -1,24 +1,21 @@
-// One region of a fill: the host's bytes up to it and the file that it names.
+// One region of a fill after the other: the next file to take in, or the host's last bytes.
 ghost use mathlib.Core.Path.{_≡_};
 ghost use mathlib.Core.List.{List, _++_};
 ghost use Prim.Native.Nat.{ℕ, _≤_};
 ghost use lib.ListN.{length, take};
-ghost use Rattle.chains.specs.Chains.{nextNamed};
 ghost use Rattle.answer.specs.Answer.{place};
 ghost use Rattle.text.specs.Bytes.{part};
-ghost use Rattle.index.specs.Rows.{AreNamed};
 ghost use Rattle.insertion.specs.Insertion.{readInserted, Within, tested};
-ghost use Rattle.filling.specs.Filling.{readFilled, filesIn, FilledWithin, withFiles, namedOf, readOpened, OpenedWithin, entryOf, FoundNext, CanOpen, CanGo};
+ghost use Rattle.opening.specs.Opening.{filesIn};
+ghost use Rattle.filling.specs.Filling.{readFilled, FilledWithin, withFiles, FoundNext, CanGo};
 use answer::Place;
 use answer::Refusal;
-use index::rows;
 use insertion::Inserted;
+use opening::Filling;
+use opening::Opened;
 use regions::host;
 use regions::host::HostCursor;
 use regions::host::NextHost;
-use regions::host::Opening;
-use text::pattern;
-use text::pattern::Found;
 
 // A fill's answer: how long the text at the front of its buffer is and how many files were taken in, no region, or a refusal.
 pub enum Filled {
@@ -27,32 +24,11 @@ pub enum Filled {
     Refused(Refusal),
 }
 
-// The file's number for places, how many records there are, the limit, the allowance, and how many files were taken in before.
-pub struct Filling {
-    pub number: usize,
-    pub count: usize,
-    pub limit: usize,
-    pub allowance: usize,
-    pub used: usize,
-}
-
 // Where a region stands: the opener's line, the target level, and how long the text through the opener is.
 pub struct Spot {
     pub line: usize,
     pub target: usize,
     pub len: usize,
-}
-
-// The file that a region names, counted from 0, or a refusal.
-pub enum Named {
-    File(usize),
-    Refused(Refusal),
-}
-
-// The file to take in and how long the text through the opener is, or a refusal.
-pub enum Opened {
-    Onto { file: usize, length: usize },
-    Refused(Refusal),
 }
 
 // What a fill does next: take a file in at a spot, and go on behind its region; or it is done.
@@ -63,90 +39,6 @@ pub enum NextFile {
         behind: HostCursor,
     },
     Done(Filled),
-}
-
-// The file that a name leads to: 13, 14, then 15.
-fn named_file(
-    index: &[u8],
-    rows: &[usize; 256],
-    top: &[u8],
-    marks: [bool; 64],
-    name: &[u8],
-    opener: Place,
-    at: Filling,
-) -> Named
-    requires { ⌜ (at .count ≤ 64) × AreNamed (now index) (now rows) (at .count) ⌝ }
-    ensures { λ r. ⌜ ((contents : List ℕ) → r ≡ namedOf (at .allowance) (at .used) opener
-        (nextNamed (filesIn (now (index .entry)) (now (rows .entry)) contents (at .count)) (now (top .entry)) marks opener (now (name .entry)))) ⌝ }
-{
-    if pattern::equals(name, top) {
-        return Named::Refused(Refusal::OnChain(opener));
-    }
-    match rows::find(index, rows, at.count, name) {
-        Found::At(file) => {
-            if marks[file] {
-                return Named::Refused(Refusal::OnChain(opener));
-            }
-            if at.allowance <= at.used {
-                return Named::Refused(Refusal::Allowance(opener));
-            }
-            Named::File(file)
-        }
-        Found::Nothing => Named::Refused(Refusal::Absent(opener)),
-    }
-}
-
-// Puts a block of the host behind the running text; 17 at a place.
-fn put_block(block: &[u8], at: Place, limit: usize, len: usize, work: &mut [u8]) -> Inserted
-    requires { ⌜ (len ≤ limit) × (limit ≤ length (now work)) ⌝ }
-    ensures { λ r. ⌜ readInserted r (now (work .exit)) ≡ tested limit at (take len (now (work .entry)) ++ now (block .entry)) ⌝ }
-    ensures { λ r. ⌜ Within r limit ⌝ }
-{
-    if limit - len < block.len() {
-        return Inserted::Refused(Refusal::TextLimit(at));
-    }
-    Inserted::To(buffer::copy(block, work, len))
-}
-
-// What comes before a region's file: the host's bytes through the opener's line, with 17; 12; the file, with 13, 14 and 15.
-fn open_region(
-    index: &[u8],
-    rows: &[usize; 256],
-    top: &[u8],
-    marks: [bool; 64],
-    s: &[u8],
-    from: usize,
-    o: Opening,
-    at: Filling,
-    len: usize,
-    work: &mut [u8],
-) -> Opened
-    requires { ⌜ CanOpen (now index) (now rows) (at .count) (length (now s)) from o len (at .limit) (length (now work)) ⌝ }
-    ensures { λ r. ⌜ ((contents : List ℕ) → readOpened r (now (work .exit)) ≡ entryOf (at .limit) (place (at .number) (o .line)) (o .headless) (take len (now (work .entry)) ++ part from (o .end) (now (s .entry)))
-        (namedOf (at .allowance) (at .used) (place (at .number) (o .line))
-        (nextNamed (filesIn (now (index .entry)) (now (rows .entry)) contents (at .count)) (now (top .entry)) marks (place (at .number) (o .line)) (part (o .path .start) (o .path .end) (now (s .entry)))))) ⌝ }
-    ensures { λ r. ⌜ OpenedWithin r (at .limit) ⌝ }
-{
-    let end = o.end;
-    let opener = Place {
-        file: at.number,
-        line: o.line,
-    };
-    match put_block(&s[from..end], opener, at.limit, len, work) {
-        Inserted::To(length) => {
-            if o.headless {
-                return Opened::Refused(Refusal::PeerWithoutHeading(opener));
-            }
-            let path = o.path;
-            let a = path.start;
-            let e = path.end;
-            match named_file(index, rows, top, marks, &s[a..e], opener, at) {
-                Named::File(file) => Opened::Onto { file, length },
-                Named::Refused(refusal) => Opened::Refused(refusal),
-            }
-        }
-        Inserted::Refused(refusal) => Opened::Refused(refusal),
-    }
 }
 
 // How long the running text is, with the files taken in, or its refusal.
@@ -171,7 +63,10 @@ fn fill_last(s: &[u8], from: usize, at: Filling, len: usize, work: &mut [u8]) ->
         file: at.number,
         line: 0,
     };
-    with_files(put_block(&s[from..], end, at.limit, len, work), at.used)
+    with_files(
+        opening::put_block(&s[from..], end, at.limit, len, work),
+        at.used,
+    )
 }
 
 // The next file of a host from a cursor on, behind the running text; or the host's last bytes, or a refusal.
@@ -192,7 +87,7 @@ pub fn next_file(
 {
     let from = c.from;
     match host::next_host(s, c) {
-        NextHost::Whole(o, behind) => match open_region(
+        NextHost::Whole(o, behind) => match opening::open_region(
             index,
             rows,
             top,

@@ -11,12 +11,13 @@ use Rattle.text.specs.Bytes.{part}
 use Rattle.index.specs.Index.{File, fileOf}
 use Rattle.walk.specs.Steps.{Judged, refused, judge}
 use Rattle.regions.specs.Regions.{scanned}
-use Rattle.regions.specs.declared.survey.Surveyed.{Surveyed}
-use Rattle.regions.specs.declared.survey.Surveyed.the-variants.{Wrong, NoRegion as Bare, Regions as Some}
-use Rattle.regions.specs.Hosts.{surveyOf, startCursor, hostRest, HostAt, regionAt, WholeHost, LastHost}
+use Rattle.survey.specs.declared.Surveyed.{Surveyed}
+use Rattle.survey.specs.declared.Surveyed.the-variants.{Wrong, NoRegion as Bare, Regions as Some}
+use Rattle.survey.specs.Surveys.{surveyOf}
+use Rattle.regions.specs.Hosts.{startCursor, hostRest, HostAt, regionAt, WholeHost, LastHost}
 use Rattle.regions.specs.declared.host.HostCursor.{HostCursor}
 use Rattle.regions.specs.declared.host.Opening.{Opening}
-use Rattle.filling.specs.declared.Filling.{Filling}
+use Rattle.opening.specs.declared.Filling.{Filling}
 use Rattle.filling.specs.declared.Filled.{Filled}
 use Rattle.filling.specs.declared.Filled.the-variants.{Text, NoRegion, Refused}
 use Rattle.taking.specs.declared.Stand.{Stand}
@@ -24,13 +25,15 @@ use Rattle.taking.specs.declared.Stand.the-variants.{On, Done}
 use Rattle.chains.specs.Chains.{Rest, fileAt, next, through, chain}
 use Rattle.walk.specs.Outcome.{Outcome, refusal, outcome}
 use Rattle.chains.specs.Fill.{walk, walkRest, filled}
-use Rattle.filling.specs.Filling.{readFilled, withFiles, namedOf, Entry, enters, barred, entryOf, chainTo, restAt, Running, Turned, IsInto, IsDone, FilledWithin}
+use Rattle.opening.specs.Opening.{namedOf, Entry, enters, barred, entryOf}
+use Rattle.filling.specs.Filling.{readFilled, withFiles, chainTo, restAt, Running, Turned, IsInto, IsDone, FilledWithin}
 use Rattle.taking.specs.Stands.{firstOf, afterOf}
 use Rattle.regions.proofs.HostLaws.{host-start}
-use Rattle.regions.proofs.SurveyLaws.{survey-regions}
+use Rattle.survey.proofs.SurveyLaws.{survey-regions}
 use Rattle.filling.proofs.TakenLaws.{fill-wrong, fill-none, fill-walk}
 use Rattle.chains.proofs.GrowLaws.{next-free}
-use Rattle.filling.proofs.TurnLaws.{running-start, turn-last, turn-barred, turn-on, entry-enters}
+use Rattle.opening.proofs.EntryLaws.{entry-enters}
+use Rattle.filling.proofs.TurnLaws.{running-start, turn-last, turn-barred, turn-on}
 
 -- what the walk over all regions of a host comes to
 abbrev pub wholeOf : List File → List ℕ → List Bool → List ℕ → List ℕ → Filling → Judged (List ℕ)

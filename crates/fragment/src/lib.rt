@@ -9,14 +9,15 @@ ghost use Rattle.walk.specs.Steps.{judge};
 ghost use Rattle.embedding.specs.Embed.{embedTold};
 ghost use Rattle.chains.specs.Chains.{fileAt, free, chain};
 ghost use Rattle.chains.specs.Fill.{walk, filled};
-ghost use Rattle.filling.specs.Filling.{readFilled, filesIn, Ready, FilledWithin, embeddedBy, chainTo, CanEmbed};
+ghost use Rattle.opening.specs.Opening.{filesIn, Ready};
+ghost use Rattle.filling.specs.Filling.{readFilled, FilledWithin, embeddedBy, chainTo, CanEmbed};
 use answer::Place;
 use filling::Filled;
-use filling::Filling;
 use filling::NextFile;
 use filling::Spot;
 use index::rows;
 use insertion::Insertion;
+use opening::Filling;
 use taking::Stand;
 
 // Takes a file in behind the running text: fills it past the limit, with its mark set for as long, and embeds what that gave.

@@ -24,8 +24,8 @@ use Rattle.fileset.proofs.CheckLaws.{rows-named}
 use Rattle.fileset.proofs.PassedLaws.{book-named}
 use Rattle.chains.specs.Chains.{fileAt}
 use Rattle.chains.proofs.GrowLaws.{find-files, find-within}
-use Rattle.filling.specs.Filling.{filesIn, Ready}
-use Rattle.filling.proofs.FilesLaws.{row-file}
+use Rattle.opening.specs.Opening.{filesIn, Ready}
+use Rattle.opening.proofs.FilesLaws.{row-file}
 use Rattle.members.specs.Members.{memberAt, numbersOf, nameOf, fileIn, filesFrom, Lies, AllLie}
 use Rattle.members.specs.declared.Member.{Member}
 use Rattle.members.proofs.MembersLaws.{put-length, member-put-same, member-put-other}

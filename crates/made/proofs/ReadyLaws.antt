@@ -11,7 +11,7 @@ use Rattle.fileset.specs.Check.{bookChecked, Passes, Listed}
 use Rattle.fileset.specs.declared.check.Checked.the-variants.{Passed}
 use Rattle.fileset.proofs.CheckLaws.{rows-same}
 use Rattle.fileset.proofs.PassedLaws.{book-fit}
-use Rattle.filling.specs.Filling.{filesIn}
+use Rattle.opening.specs.Opening.{filesIn}
 use Rattle.members.specs.Members.{filesFrom}
 use Rattle.listed.specs.Files.{AreFiles}
 use Rattle.listed.proofs.FilesLaws.{rows-ready, line-stands, all-lie, files-same}

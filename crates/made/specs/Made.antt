@@ -9,7 +9,7 @@ use Rattle.index.specs.Index.{File}
 use Rattle.walk.specs.Steps.{Steps, go, Judged, given, refused, judge}
 use Rattle.chains.specs.Chains.{startAt}
 use Rattle.assembled.specs.Assemble.{assemble}
-use Rattle.filling.specs.Filling.{Ready}
+use Rattle.opening.specs.Opening.{Ready}
 use Rattle.put.specs.declared.Source.{Source}
 use Rattle.members.specs.Members.{memberAt, Lies, AllLie}
 use Rattle.members.specs.declared.Member.{Member}

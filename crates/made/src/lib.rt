@@ -4,13 +4,14 @@ ghost use Prim.Native.Nat.{_+_};
 ghost use lib.ListN.{length, take, drop};
 ghost use Rattle.chains.specs.Chains.{startAt};
 ghost use Rattle.chains.specs.Fill.{filled};
-ghost use Rattle.filling.specs.Filling.{readFilled, filesIn, FilledWithin};
+ghost use Rattle.opening.specs.Opening.{filesIn};
+ghost use Rattle.filling.specs.Filling.{readFilled, FilledWithin};
 ghost use Rattle.members.specs.Members.{fileIn, filesFrom, AllLie};
 ghost use Rattle.made.specs.Made.{slot, placedAt, CanFill, CanMake, MadeOf};
 use answer::Refusal;
 use filling::Filled;
-use filling::Filling;
 use members::Member;
+use opening::Filling;
 use put::Source;
 
 // All members are made, with the number of files taken in, or one is refused.

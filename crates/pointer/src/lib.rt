@@ -13,8 +13,6 @@ use put::Put;
 use put::Room;
 use put::Source;
 
-pub mod read;
-
 // `#` and the anchor of a title.
 pub fn put_anchor(contents: &[u8], title: Source, room: Room, work: &mut [u8]) -> Put
     requires { ⌜ Able title room (now contents) (now work) ⌝ }
@@ -23,14 +21,14 @@ pub fn put_anchor(contents: &[u8], title: Source, room: Room, work: &mut [u8]) -
     let limit = room.limit;
     let mut at = room.at;
     let mut b = b'#';
-    let mut c = read::anchor_in(contents, work, title);
+    let mut c = sources::anchor_in(contents, work, title);
     loop {
         if at == limit {
             return Put::Over;
         }
         work[at] = b;
         at += 1;
-        let AnchorByte::Byte(next, behind) = read::byte_in(contents, work, title, c) else {
+        let AnchorByte::Byte(next, behind) = sources::byte_in(contents, work, title, c) else {
             return Put::To(at);
         };
         b = next;
@@ -56,7 +54,7 @@ fn put_path(contents: &[u8], path: Source, dir: &[u8], room: Room, work: &mut [u
     requires { ⌜ Able path room (now contents) (now work) ⌝ }
     ensures { λ r. ⌜ Wrote room (resolve (now (dir .entry)) (sourceText path (now (contents .entry)) (now (work .entry)))) (now (work .entry)) (now (work .exit)) r ⌝ }
 {
-    let n = read::length_in(contents, work, path, dir);
+    let n = sources::length_in(contents, work, path, dir);
     if room.limit - room.at < n {
         return Put::Over;
     }

@@ -4,4 +4,3 @@ pub mod BlankLaws
 pub mod OwnLaws
 pub mod CursorLaws
 pub mod HostLaws
-pub mod SurveyLaws

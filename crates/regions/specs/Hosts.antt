@@ -19,19 +19,11 @@ use Rattle.heading.specs.Walk.{walkBegin, kindsFrom, statesAfter}
 use Rattle.heading.specs.declared.level.TopLevel.{TopLevel}
 use Rattle.heading.specs.declared.level.TopLevel.the-variants.{NoHeading}
 use Rattle.index.specs.Index.{File, fileOf}
-use Rattle.regions.specs.Regions.{Regions, HostRegion, behind, region, Scanned, problem, noRegion, regions, regionsFrom, ownKinds, blankedFrom, lastLevel}
-use Rattle.regions.specs.declared.survey.Surveyed.{Surveyed}
-use Rattle.regions.specs.declared.survey.Surveyed.the-variants as answer
+use Rattle.regions.specs.Regions.{Regions, HostRegion, behind, region, regionsFrom, ownKinds, blankedFrom, lastLevel}
 use Rattle.regions.specs.declared.host.HostCursor.{HostCursor}
 use Rattle.regions.specs.declared.host.Opening.{Opening}
 use Rattle.regions.specs.declared.host.NextHost.{NextHost}
 use Rattle.regions.specs.declared.host.NextHost.the-variants.{Whole, NoMore}
-
--- what a survey answers
-abbrev pub surveyOf : Scanned → Surveyed
-surveyOf (problem x xs rs) = answer.Wrong x
-surveyOf (noRegion s) = answer.NoRegion
-surveyOf (regions rs) = answer.Regions
 
 -- the cursor at a host's start
 abbrev pub startCursor : HostCursor

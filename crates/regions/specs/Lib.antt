@@ -1,4 +1,3 @@
 pub mod Regions
 pub mod Hosts
 pub mod Own
-pub mod Surveys

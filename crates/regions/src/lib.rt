@@ -1,4 +1,3 @@
 // The regions of a host: what a fill finds in a file before it takes anything in.
 pub mod host;
 pub mod own;
-pub mod survey;

@@ -21,12 +21,14 @@ use Rattle.member.specs.declared.lines.LineCursor.{LineCursor}
 use Rattle.member.specs.declared.lines.NextHeading.{NextHeading}
 use Rattle.members.specs.Members.{memberAt, nameOf, textSource, preparedIn, preparedFrom, AllStand}
 use Rattle.members.proofs.MembersLaws.{prepared-more, prepared-up, source-up, inside-part, inside-more, text-inside}
-use Rattle.shared.specs.Shared.{earlier, sharedIn}
+use Rattle.earlier.specs.Earlier.{earlier}
+use Rattle.shared.specs.Shared.{sharedIn}
 use Rattle.marks.specs.Marks.{Marks}
 use Rattle.shared.specs.Tells.{TellsLines, Tells, SharedOf}
 use Rattle.shared.specs.declared.Shared.the-variants.{At}
-use Rattle.shared.proofs.LineLaws.{first-in, first-left, shared-none, shared-next, tells-plain, tells-append, upTo, left-up, tells-up, part-fits, part-text}
-use Rattle.shared.proofs.EarlierLaws.{lines-still, tells-still, tells-more, earlier-none}
+use Rattle.earlier.proofs.LineLaws.{first-in, first-left, part-fits, part-text}
+use Rattle.shared.proofs.LineLaws.{shared-none, shared-next, tells-plain, tells-append, upTo, left-up, tells-up}
+use Rattle.shared.proofs.TellsLaws.{lines-still, tells-still, tells-more, earlier-none}
 
 -- a part that was lent and has come back
 abbrev pub backed : List ℕ → List ℕ → ℕ → ℕ → List ℕ

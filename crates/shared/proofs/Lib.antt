@@ -1,4 +1,4 @@
 pub mod LineLaws
-pub mod EarlierLaws
+pub mod TellsLaws
 pub mod CompareLaws
 pub mod SharedLaws

@@ -2,8 +2,8 @@
 use Prim.Native.Nat.{ℕ}
 use Rattle.regions.specs.Hosts.{startCursor}
 use Rattle.regions.specs.declared.host.HostCursor.{HostCursor}
-use Rattle.regions.specs.declared.survey.Surveyed.{Surveyed}
-use Rattle.regions.specs.declared.survey.Surveyed.the-variants.{Wrong, NoRegion as Bare, Regions as Some}
+use Rattle.survey.specs.declared.Surveyed.{Surveyed}
+use Rattle.survey.specs.declared.Surveyed.the-variants.{Wrong, NoRegion as Bare, Regions as Some}
 use Rattle.filling.specs.declared.Filled.{Filled}
 use Rattle.filling.specs.declared.Filled.the-variants.{Text, NoRegion, Refused}
 use Rattle.taking.specs.declared.Stand.{Stand}

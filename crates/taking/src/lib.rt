@@ -5,20 +5,20 @@ ghost use Prim.Native.Nat.{ℕ, _+_};
 ghost use lib.ListN.{length, take, drop};
 ghost use Rattle.text.specs.Bytes.{part};
 ghost use Rattle.index.specs.Index.{fileOf};
-ghost use Rattle.regions.specs.Hosts.{surveyOf};
+ghost use Rattle.survey.specs.Surveys.{surveyOf};
 ghost use Rattle.regions.specs.Regions.{scanned};
 ghost use Rattle.embedding.specs.Embed.{embedTold};
-ghost use Rattle.filling.specs.Filling.{readFilled, FilledWithin, takenIn, Lies, CanTake};
+ghost use Rattle.opening.specs.Opening.{Lies};
+ghost use Rattle.filling.specs.Filling.{readFilled, FilledWithin, takenIn, CanTake};
 ghost use Rattle.taking.specs.Stands.{firstOf, afterOf};
 use filling::Filled;
-use filling::Filling;
 use index::rows::Row;
 use insertion::Insertion;
+use opening::Filling;
 use put::Source;
 use regions::host;
 use regions::host::HostCursor;
-use regions::survey;
-use regions::survey::Surveyed;
+use survey::Surveyed;
 
 // Where a fill stands: behind a region or at the start, with how long its text is and the files taken in; or it is done.
 pub enum Stand {

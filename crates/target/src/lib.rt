@@ -95,7 +95,7 @@ fn put_placed(
 {
     let mut resolved = [0u8; 256];
     let path = put::part_of(target, 0, e);
-    match pointer::read::resolve_in(contents, work, path, dir, &mut resolved) {
+    match sources::resolve_in(contents, work, path, dir, &mut resolved) {
         Resolved::From(a) => put_named(
             index,
             contents,
@@ -127,7 +127,7 @@ pub fn put_target(
     requires { ⌜ Able target room (now contents) (now work) × AllStand (now index) (length (now contents)) (room .limit) (length (now work)) (now set) count ⌝ }
     ensures { λ r. ⌜ Wrote room (rewriteTarget (titlesIn (now (index .entry)) (now (contents .entry)) (now (work .entry)) (now (set .entry)) count) (now (url .entry)) (now (dir .entry)) (sourceText target (now (contents .entry)) (now (work .entry)))) (now (work .entry)) (now (work .exit)) r ⌝ }
 {
-    match pointer::read::target_in(contents, work, target) {
+    match sources::target_in(contents, work, target) {
         Target::Untouched => {
             let n = target.end - target.start;
             put::put_part(contents, target, 0, n, room, work)

@@ -29,7 +29,8 @@ use Rattle.walk.specs.Steps.{go, judge}
 use Rattle.walk.specs.Outcome.{Outcome, text, refusal}
 use Rattle.shift.specs.Shift.{toldFrom, pastFrom as headingsPast, upTo}
 use Rattle.member.specs.Member.{withoutContents, preparedLines, titleOf, prepare, movable}
-use Rattle.shared.specs.Shared.{lineOf as anchorLine, earlier, sharedIn, sharedFrom}
+use Rattle.earlier.specs.Earlier.{lineOf as anchorLine, earlier}
+use Rattle.shared.specs.Shared.{sharedIn, sharedFrom}
 use Rattle.target.specs.Titles.{titleNamed}
 use Rattle.emitted.specs.Emit.{emit}
 use Rattle.assembled.specs.Assemble.{prepareAll, emitAll, assemble}

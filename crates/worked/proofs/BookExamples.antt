@@ -37,7 +37,8 @@ use Rattle.regions.specs.Regions.{problemsOf, isWithin, blankedFrom, lastLevel,
 use Rattle.shift.specs.Shift.{toldFrom, pastFrom as pastFrom-of-shift, upTo, blanks}
 use Rattle.assembled.specs.Assemble.{prepareAll, emitAll, assemble}
 use Rattle.member.specs.Member.{withoutContents, preparedLines, titleOf, prepare, movable}
-use Rattle.shared.specs.Shared.{lineOf as lineOf-of-assemblyMember, earlier, sharedIn, sharedFrom}
+use Rattle.earlier.specs.Earlier.{lineOf as lineOf-of-assemblyMember, earlier}
+use Rattle.shared.specs.Shared.{sharedIn, sharedFrom}
 use Rattle.target.specs.Titles.{titleNamed}
 use Rattle.emitted.specs.Emit.{emit}
 use Rattle.book.specs.BookWalk.{walkAll, book}

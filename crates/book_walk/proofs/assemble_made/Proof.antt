@@ -7,7 +7,7 @@ use lib.ListN.{length}
 use Rattle.index.specs.Index.{File}
 use Rattle.walk.specs.Steps.{refused}
 use Rattle.walk.specs.Outcome.{outcome}
-use Rattle.filling.specs.Filling.{filesIn}
+use Rattle.opening.specs.Opening.{filesIn}
 use Rattle.members.specs.Members.{filesFrom}
 use Rattle.made.specs.Made.{judgedAll, AreMade}
 use Rattle.made.proofs.MakingLaws.{slot-le, table-fits}

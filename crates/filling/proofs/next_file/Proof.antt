@@ -4,8 +4,8 @@ use mathlib.Core.Path.{sym, _∙_, ap}
 use lib.ListN.{take}
 use Rattle.regions.specs.Hosts.{WholeHost, LastHost}
 use Rattle.regions.proofs.HostLaws.{host-within}
-use Rattle.filling.specs.Filling.{filesIn, readOpened, OpenedWithin}
-use Rattle.filling.specs.declared.Opened.the-variants.{Onto}
+use Rattle.opening.specs.Opening.{filesIn, readOpened, OpenedWithin}
+use Rattle.opening.specs.declared.Opened.the-variants.{Onto}
 use Rattle.filling.proofs.NextLaws.{done-last, done-barred, into-file}
 use borrow.Author.Needs.{needs}
 use Rattle.filling.proofs.next_file.Statement.{statement}

@@ -10,8 +10,9 @@ use borrow.Author.Needs.{needs}
 use Rattle.answer.specs.Answer.{place}
 use Rattle.filling.specs.declared.NextFile.the-variants.{Done}
 use Rattle.chains.specs.Chains.{free}
-use Rattle.filling.specs.Filling.{filesIn, IsInto, FoundNext}
-use Rattle.filling.proofs.FilesLaws.{set-length, row-file, row-lies}
+use Rattle.opening.specs.Opening.{filesIn}
+use Rattle.filling.specs.Filling.{IsInto, FoundNext}
+use Rattle.opening.proofs.FilesLaws.{set-length, row-file, row-lies}
 use Rattle.filling.proofs.RoomLaws.{lent-length, back-length, free-next, room-next, room-two}
 use Rattle.filling.proofs.TakenLaws.{taken-back, taken-file}
 use Rattle.fragment.proofs.LoopLaws.{wholeOf, Loop, Over, Stands, left, stands-first, stands-after, left-less}

@@ -3,7 +3,7 @@ use native.Mathlib.Omega.{arith}
 use Prim.Native.Nat.{_-_}
 use mathlib.Core.Path.{_≡_, _∙_}
 use lib.ListN.{length}
-use Rattle.filling.specs.Filling.{filesIn}
+use Rattle.opening.specs.Opening.{filesIn}
 use Rattle.made.proofs.MemberLaws.{source-in, slot-room, slot-read, slot-kept, member-filled}
 use borrow.Author.Needs.{needs}
 use Rattle.made.proofs.fill_member.Statement.{statement}

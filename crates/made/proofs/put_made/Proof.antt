@@ -12,7 +12,7 @@ use Rattle.chains.specs.Fill.{filled}
 use Rattle.members.specs.Members.{numbersOf, fileIn}
 use Rattle.members.specs.declared.Member.{Member}
 use Rattle.made.specs.Made.{slot}
-use Rattle.filling.specs.Filling.{filesIn}
+use Rattle.opening.specs.Opening.{filesIn}
 use Rattle.made.proofs.MakingLaws.{Making, slots-fit, can-fill, making-start, making-refused, making-kept, making-filled, lie-on, making-end}
 use borrow.Author.Needs.{needs}
 use Rattle.made.proofs.put_made.Statement.{statement}

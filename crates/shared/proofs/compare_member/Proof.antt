@@ -7,7 +7,7 @@ use lib.ListN.{length}
 use borrow.Author.Needs.{needs}
 use Rattle.text.proofs.BytesLaws.{part-full}
 use Rattle.put.specs.Put.{sourceText}
-use Rattle.shared.proofs.EarlierLaws.{stands-at}
+use Rattle.earlier.proofs.EarlierLaws.{stands-at}
 use Rattle.shared.proofs.CompareLaws.{backed, Walked, walk-start, text-read, walk-inside, walk-found, walk-none, walk-tells, head-fits, head-read, next-same, next-long, second-alone, second-found, walk-next, walk-hit}
 use Rattle.shared.proofs.compare_member.Statement.{statement}
 use Rattle.shared.proofs.compare_member.Tie as tie
