@@ -164,15 +164,16 @@ pub struct Limits {
     /// The text limit, 1 to 1,048,576: no text made on the way may have more bytes.
     pub text: usize,
     /// The allowance: how many files may be taken in, each counted as often as a region
-    /// takes it in. It bounds the time of a call.
+    /// takes it in. With the sizes of the files it bounds the time of a fill; a book takes
+    /// the time of its assembly too, which it does not bound (docs/LIMITS.md).
     pub files: u32,
 }
 
 /// How many bytes of work a call takes: (records + list lines + 2) times the text limit.
 /// A fill has no list lines.
 ///
-/// Where that passes `usize::MAX`, it is `usize::MAX`, which no buffer has; no text limit
-/// that a call accepts gets there.
+/// Where that passes `usize::MAX`, it is `usize::MAX`, which no buffer has. The most that a
+/// call takes, with 64 records, 64 lines and a text limit of 1,048,576, is 136,314,880.
 ///
 /// ```
 /// use jilgyemot::work_size;

@@ -16,7 +16,7 @@ const SENTENCES: [&str; 19] = [
     "the URL, or the name of a host, is not 1 to 255 printable ASCII bytes: mend it",
     "the list has more than 64 lines or its last line has no end: mend the list",
     "the text limit is not 1 to 1,048,576, or a buffer is too short for it: \
-     lend larger buffers",
+     change the limit or lend larger buffers",
     "the region is opened inside a region: close the first one above it",
     "the fragment marker shares its line or is ill spelled: \
      write <!--[fragment:PATH]--> alone on a line",
@@ -28,11 +28,15 @@ const SENTENCES: [&str; 19] = [
      mend the name or give the note",
     "as many files as the allowance has are taken in already: \
      a limit was met, no file needs mending",
-    "the heading would be past level 6 where its text stands: give it fewer hashes",
-    "the text made here is longer than the text limit: \
+    "the heading would be past level 6 where its text stands \
+     (lines count the text as it stands there): \
+     give it fewer hashes, or take the text in under a higher heading",
+    "the text made here is too long for the text limit or the output: \
      a limit was met, no file needs mending",
     "the member has no heading of level 1: give it a title",
-    "the heading has the same anchor as {}: change one of the two",
+    "the heading has the same anchor as {} \
+     (lines count the notes as filled, without hand-written contents): \
+     change one of the two, or let only one of the notes take it in",
 ];
 
 /// For a number that has no sentence. No call gives one.
@@ -78,7 +82,7 @@ pub struct Place {
 /// | 16 | a heading would be past level 6 | the file or member, and the line in what is put of it |
 /// | 17 | a text is longer than the text limit or, in a scan, than the output | the opener, or line 0 behind the last one; the member, line 0 |
 /// | 18 | a member has no heading of level 1 | the member, line 0 |
-/// | 19 | an anchor is also in an earlier member of another name | the member; the earlier one is the second place |
+/// | 19 | an anchor is also in an earlier member of another name | the member, and the line in what is put of it; the earlier one is the second place |
 ///
 /// As text it is the place, what is wrong and what to do, and the number: `file 2, line
 /// 12: the region is never closed: put <!--[/]--> on a line below it (refusal 11)`.

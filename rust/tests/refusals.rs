@@ -75,8 +75,8 @@ const WORDS: [&str; 19] = [
      (refusal 6)",
     "the list has more than 64 lines or its last line has no end: mend the list \
      (refusal 7)",
-    "the text limit is not 1 to 1,048,576, or a buffer is too short for it: lend larger \
-     buffers (refusal 8)",
+    "the text limit is not 1 to 1,048,576, or a buffer is too short for it: change the \
+     limit or lend larger buffers (refusal 8)",
     "file 1, line 3: the region is opened inside a region: close the first one above it \
      (refusal 9)",
     "file 1, line 2: the fragment marker shares its line or is ill spelled: write \
@@ -90,13 +90,15 @@ const WORDS: [&str; 19] = [
      or give the note (refusal 14)",
     "file 1, line 2: as many files as the allowance has are taken in already: a limit \
      was met, no file needs mending (refusal 15)",
-    "file 2, line 2: the heading would be past level 6 where its text stands: give it \
-     fewer hashes (refusal 16)",
-    "file 1: the text made here is longer than the text limit: a limit was met, no file \
-     needs mending (refusal 17)",
+    "file 2, line 2: the heading would be past level 6 where its text stands (lines count \
+     the text as it stands there): give it fewer hashes, or take the text in under a \
+     higher heading (refusal 16)",
+    "file 1: the text made here is too long for the text limit or the output: a limit was \
+     met, no file needs mending (refusal 17)",
     "file 1: the member has no heading of level 1: give it a title (refusal 18)",
-    "file 2, line 2: the heading has the same anchor as file 1, line 1: change one of \
-     the two (refusal 19)",
+    "file 2, line 2: the heading has the same anchor as file 1, line 1 (lines count the \
+     notes as filled, without hand-written contents): change one of the two, or let only \
+     one of the notes take it in (refusal 19)",
 ];
 
 #[test]
@@ -123,8 +125,9 @@ const NOTES: [File; 2] = [("docs/gauge.md", "# Gauge\n## T\n"), ("it's \"b\".md"
 fn names_stand_for_files() {
     let (index, _) = set_of(&NOTES);
     let shared = assembly_of(&NOTES, &["docs/gauge.md", "it's \"b\".md"], 256);
-    let words = "it's \"b\".md:2: the heading has the same anchor as docs/gauge.md:2: \
-        change one of the two (refusal 19)";
+    let words = "it's \"b\".md:2: the heading has the same anchor as docs/gauge.md:2 \
+        (lines count the notes as filled, without hand-written contents): change one of \
+        the two, or let only one of the notes take it in (refusal 19)";
     assert_eq!(shared.expect_err("a refusal").named(&index).to_string(), words);
     let untitled = [("docs/gauge.md", "## Gauge\n")];
     let refusal = assembly_of(&untitled, &["docs/gauge.md"], 256).expect_err("a refusal");

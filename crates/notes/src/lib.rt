@@ -87,6 +87,13 @@ fn say_unread(name: &[u8], reading: Reading) {
     }
 }
 
+// Says that an argument, counted from 1, is no name.
+fn say_no_name(i: usize) {
+    io::write_all(STDERR_FILENO, b"stationbook: the name in argument ");
+    io::print_decimal(STDERR_FILENO, i as u64);
+    io::write_all(STDERR_FILENO, b" is empty or too long\n");
+}
+
 // Reads the file that an argument names into a buffer, from a place on.
 pub fn read_argument(i: usize, buf: &mut [u8], at: usize) -> Reading
     requires { ⌜ at ≤ length (now buf) ⌝ }
@@ -95,10 +102,7 @@ pub fn read_argument(i: usize, buf: &mut [u8], at: usize) -> Reading
     let mut name = io::buffer();
     let n = os::arg(i, &mut name);
     if n == 0 {
-        io::write_all(
-            STDERR_FILENO,
-            b"stationbook: the name of a file is empty or too long\n",
-        );
+        say_no_name(i);
         return Reading::Unreadable;
     }
     let fd = os::open_read(&name[..n]);

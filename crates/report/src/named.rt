@@ -25,18 +25,30 @@ fn say_path(opener: &[u8]) {
     say_shown(&opener[start..end]);
 }
 
-// The path of the region that opens on a line of a note, or the name on a line of the list.
-fn say_named_on(text: &[u8], number: usize) {
-    let l = line::line_at(text, number);
+// The path of the region that opens on a line of a note.
+fn say_named_on(note: &[u8], number: usize) {
+    let l = line::line_at(note, number);
     let start = l.start;
     let end = l.end;
-    say_path(&text[start..end]);
+    say_path(&note[start..end]);
+}
+
+// A line of the list, which is a name whatever stands on it.
+fn say_listed(list: &[u8], number: usize) {
+    let l = line::line_at(list, number);
+    let start = l.start;
+    let end = l.end;
+    if start == end {
+        io::write_all(STDERR_FILENO, b"an empty name");
+        return;
+    }
+    say_shown(&list[start..end]);
 }
 
 // The file that is named at a place: by a note's region, or by the list. Where each note starts in the contents and the one before it ends.
 pub fn say_named(file: usize, line: usize, starts: &[usize; 65], contents: &[u8], list: &[u8]) {
     if file == 0 {
-        say_named_on(list, line);
+        say_listed(list, line);
         return;
     }
     if 64 < file {

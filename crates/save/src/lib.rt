@@ -2,7 +2,8 @@
 ghost use Prim.Native.Nat.{_≤_};
 ghost use lib.ListN.{length};
 use libc::STDERR_FILENO;
-use text::pattern;
+use resolve::Resolved;
+use station::shown;
 
 // The longest name: `.part` behind it still makes a path.
 const MOST: usize = 4_000;
@@ -15,20 +16,25 @@ fn write_whole(fd: i32, text: &[u8]) -> bool {
     kept && closed
 }
 
-// Writes a text to a file beside this one, and renames it. Answers whether it did.
-fn replace(name: &[u8], beside: &[u8], text: &[u8]) -> bool {
-    let fd = os::open_overwrite(beside);
+// Writes a text to a new file beside this one, and renames it. Answers whether it did. What fails is said by the other file's name as it
+// is shown, which begins with this one's.
+fn replace(name: &[u8], beside: &[u8], shown: &[u8], text: &[u8]) -> bool
+    requires { ⌜ length (now name) ≤ length (now shown) ⌝ }
+{
+    os::unlink(beside);
+    let fd = os::create(beside);
     if fd < 0 {
-        os::fail(beside);
+        os::fail(shown);
         return false;
     }
     if !write_whole(fd, text) {
-        os::fail(beside);
+        os::fail(shown);
         os::unlink(beside);
         return false;
     }
     if os::rename(beside, name) != 0 {
-        os::fail(name);
+        let n = name.len();
+        os::fail(&shown[..n]);
         os::unlink(beside);
         return false;
     }
@@ -44,23 +50,49 @@ pub fn save(i: usize, text: &[u8]) -> bool {
     }
     let mut beside = name;
     let end = buffer::copy(b".part", &mut beside, n);
-    replace(&name[..n], &beside[..end], text)
+    let mut said = beside;
+    shown::show(&mut said);
+    replace(&name[..n], &beside[..end], &said[..end], text)
+}
+
+// Whether two names are one path, without a look at the disk. A name that does not start at the root is put below parts that no name has,
+// so that a `..` drops one of those.
+fn is_same(a: &[u8], b: &[u8]) -> bool {
+    let above = b"\0/\0/\0/\0/\0/\0/\0/\0";
+    let mut whole = io::buffer();
+    let Resolved::From(at) = resolve::resolve_into(b, above, &mut whole) else {
+        return false;
+    };
+    resolve::resolves_to(a, above, &whole[at..])
 }
 
 // Whether an argument is the file that a book goes to, or the one beside it.
-fn is_same(i: usize, book: &[u8], beside: &[u8]) -> bool {
+fn is_book(i: usize, book: &[u8], beside: &[u8]) -> bool {
     let mut name = io::buffer();
     let n = os::arg(i, &mut name);
-    pattern::equals(&name[..n], book) || pattern::equals(&name[..n], beside)
+    is_same(&name[..n], book) || is_same(&name[..n], beside)
 }
 
-// Whether one of so many arguments from one on is the file that a book goes to, or the one beside it.
+// Says of an argument that a book would be written over it.
+fn say_over(i: usize) {
+    let mut name = io::buffer();
+    let n = os::arg(i, &mut name);
+    shown::show(&mut name);
+    io::write_all(STDERR_FILENO, &name[..n]);
+    io::write_all(
+        STDERR_FILENO,
+        b": the book would be written over this file\n",
+    );
+}
+
+// Whether one of so many arguments from one on is the file that a book goes to, or the one beside it. The first such is said.
 fn is_given(first: usize, count: usize, book: &[u8], beside: &[u8]) -> bool
     requires { ⌜ (first ≤ 7) × (count ≤ 65) ⌝ }
 {
     let mut k = 0;
     while k < count {
-        if is_same(first + k, book, beside) {
+        if is_book(first + k, book, beside) {
+            say_over(first + k);
             return true;
         }
         k += 1;
@@ -90,12 +122,5 @@ pub fn can_save(i: usize, first: usize, count: usize) -> bool
     }
     let mut beside = name;
     let end = buffer::copy(b".part", &mut beside, n);
-    if is_given(first, count, &name[..n], &beside[..end]) {
-        io::write_all(
-            STDERR_FILENO,
-            b"stationbook: the book would be written over a note or the list\n",
-        );
-        return false;
-    }
-    true
+    !is_given(first, count, &name[..n], &beside[..end])
 }

@@ -36,7 +36,7 @@ fn say_input(fd: i32, number: u64) {
         ),
         8 => io::write_all(
             fd,
-            b"the text limit is not 1 to 1,048,576, or a buffer is too short for it: lend larger buffers",
+            b"the text limit is not 1 to 1,048,576, or a buffer is too short for it: change the limit or lend larger buffers",
         ),
         _ => false,
     }
@@ -78,11 +78,11 @@ fn say_made(fd: i32, number: u64) {
     match number {
         16 => io::write_all(
             fd,
-            b"the heading would be past level 6 where its text stands: give it fewer hashes",
+            b"the heading would be past level 6 where its text stands (lines count the text as it stands there): give it fewer hashes, or take the text in under a higher heading",
         ),
         17 => io::write_all(
             fd,
-            b"the text made here is longer than the text limit: a limit was met, no file needs mending",
+            b"the text made here is too long for the text limit or the output: a limit was met, no file needs mending",
         ),
         18 => io::write_all(fd, b"the member has no heading of level 1: give it a title"),
         19 => io::write_all(fd, b"the heading has the same anchor as "),
@@ -110,7 +110,10 @@ pub fn say_last(fd: i32, number: u64) {
             fd,
             b", which is not among the notes: mend the name or give the note",
         ),
-        19 => io::write_all(fd, b": change one of the two"),
+        19 => io::write_all(
+            fd,
+            b" (lines count the notes as filled, without hand-written contents): change one of the two, or let only one of the notes take it in",
+        ),
         _ => false,
     }
     ;

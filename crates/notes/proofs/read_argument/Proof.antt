@@ -15,11 +15,8 @@ slice-aggregate-arg c = search needs
 arg-requires : tie.Need-arg-requires
 arg-requires c κs = search needs
 
-slice-aggregate-write-all : tie.Need-slice-aggregate-write-all
-slice-aggregate-write-all c = search needs
-
-write-all-requires : tie.Need-write-all-requires
-write-all-requires c κs = search needs
+say-no-name-requires : tie.Need-say-no-name-requires
+say-no-name-requires c κs = search needs
 
 returns : tie.Need-returns
 returns c = search needs
@@ -79,8 +76,7 @@ read-argument-spec =
     buffer-requires
     slice-aggregate-arg
     arg-requires
-    slice-aggregate-write-all
-    write-all-requires
+    say-no-name-requires
     returns
     array-share-prefix-name
     slice-aggregate-open-read

@@ -51,17 +51,8 @@ slice-aggregate-is-given-2 c = sym (length-take-le (c .before .before .before .c
 is-given-requires : tie.Need-is-given-requires
 is-given-requires c κs = search needs
 
-slice-aggregate-write-all : tie.Need-slice-aggregate-write-all
-slice-aggregate-write-all c = search needs
-
-write-all-requires : tie.Need-write-all-requires
-write-all-requires c κs = search needs
-
 returns-3 : tie.Need-returns-3
 returns-3 c = search needs
-
-returns-4 : tie.Need-returns-4
-returns-4 c = search needs
 
 pub can-save-spec : {M : Type 1} → statement M
 can-save-spec =
@@ -82,7 +73,4 @@ can-save-spec =
     array-share-prefix-beside
     slice-aggregate-is-given-2
     is-given-requires
-    slice-aggregate-write-all
-    write-all-requires
-    returns-3
-    returns-4)
+    returns-3)

@@ -14,11 +14,17 @@ abbrev μ-loop : tie.MeasureT-loop
 loop-holds : tie.Need-loop-holds Inv-loop μ-loop
 loop-holds c = omega arith
 
-add-is-same : tie.Need-add-is-same Inv-loop μ-loop
-add-is-same c = omega arith
+add-is-book : tie.Need-add-is-book Inv-loop μ-loop
+add-is-book c = omega arith
 
-is-same-requires : tie.Need-is-same-requires Inv-loop μ-loop
-is-same-requires c κs = search needs
+is-book-requires : tie.Need-is-book-requires Inv-loop μ-loop
+is-book-requires c κs = search needs
+
+add-say-over : tie.Need-add-say-over Inv-loop μ-loop
+add-say-over c = omega arith
+
+say-over-requires : tie.Need-say-over-requires Inv-loop μ-loop
+say-over-requires c κs = search needs
 
 returns : tie.Need-returns Inv-loop μ-loop
 returns c = tt
@@ -42,8 +48,10 @@ is-given-spec =
     Inv-loop
     μ-loop
     loop-holds
-    add-is-same
-    is-same-requires
+    add-is-book
+    is-book-requires
+    add-say-over
+    say-over-requires
     returns
     add-k
     loop-less
