@@ -140,7 +140,7 @@ stays-fence (some f) l h = go (closesCode f l)
 
 pub each-parts : EachParts
 unfolding indentedByFour otherSpaceBefore backtickInInfo shorterCloser textAfterCloser stepAfter outsideAfter closes opener codeOpener opensWith closesCode run indent first any lead trimStart isSpace startsWith commentAfter
-each-parts = ((refl, (refl, refl)), ((refl, (refl, refl)), ((refl, (refl, refl)), ((refl, (refl, refl)), ((refl, (refl, refl)), ((refl, (refl, refl)), (refl, (refl, refl))))))))
+each-parts = ((refl, (refl, refl)), ((refl, (refl, refl)), ((refl, (refl, refl)), ((refl, (refl, refl)), ((refl, (refl, refl)), ((refl, (refl, refl)), ((refl, (refl, refl)), (refl, (refl, refl)))))))))
 
 pub other-kind-parts : OtherKindParts
 unfolding otherKindCloses after kindAt kindOf isFence closesCode run indent first lead trimStart isSpace startsWith
@@ -148,4 +148,4 @@ other-kind-parts = (refl, (refl, refl))
 
 pub none-holds : NoneHolds
 unfolding scanDeparts departs indentedByFour otherSpaceBefore backtickInInfo shorterCloser textAfterCloser otherKindCloses run indent first any lead trimStart isSpace startsWith
-none-holds = (refl, (refl, (refl, (refl, (refl, (refl, (refl, refl)))))))
+none-holds = (refl, (refl, (refl, (refl, (refl, (refl, (refl, (refl, (refl, refl)))))))))

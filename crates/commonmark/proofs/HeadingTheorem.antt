@@ -87,8 +87,8 @@ same-heading (x ∷ l) d = go (eqb x 0x20) refl
 
 pub each-parts : EachParts
 unfolding indented tabAfterHashes bareHashes closingRun otherSpaceBytes isClosed runStart unclosed atx strip stripStart stripEnd indent headingOf textStart textEnd hashes lead kept isSpace first afterLast startsWith
-each-parts = ((refl, (refl, refl)), ((refl, (refl, refl)), ((refl, (refl, refl)), ((refl, (refl, refl)), (refl, (refl, refl))))))
+each-parts = ((refl, (refl, refl)), ((refl, (refl, refl)), ((refl, (refl, refl)), ((refl, (refl, refl)), ((refl, (refl, refl)), ((refl, (refl, refl)), (refl, (refl, refl))))))))
 
 pub none-holds : NoneHolds
 unfolding departs indented tabAfterHashes bareHashes closingRun otherSpaceBytes isClosed runStart unclosed atx strip stripStart stripEnd indent hashes isSpace first afterLast startsWith
-none-holds = (refl, (refl, (refl, (refl, (refl, (refl, (refl, refl)))))))
+none-holds = (refl, (refl, (refl, (refl, (refl, (refl, (refl, (refl, (refl, refl)))))))))

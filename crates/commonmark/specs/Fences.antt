@@ -110,7 +110,8 @@ EachParts =
     × (Parts otherSpaceBefore (ticks 3) (0x0B ∷ bytes "```") Outside Ticks
     × (Parts backtickInInfo none (bytes "```a`") Ticks Outside
     × (Parts shorterCloser (ticks 4) (bytes "```") Outside Ticks
-    × Parts textAfterCloser (ticks 3) (bytes "```a") Outside Ticks)))))
+    × (Parts textAfterCloser (ticks 3) (bytes "```a") Outside Ticks
+    × Parts textAfterCloser (ticks 3) (bytes "```" ++ (0x0B ∷ [])) Outside Ticks))))))
 
 -- and in the scan a closer of the other kind
 abbrev pub OtherKindParts : Type 0
@@ -129,4 +130,6 @@ NoneHolds =
     × ((scanDeparts (ticks 3) (bytes "```") ≡ false)
     × ((scanDeparts (ticks 3) (bytes "  `````  ") ≡ false)
     × ((scanDeparts (ticks 3) (bytes "    a ```") ≡ false)
-    × (departs (ticks 3) (bytes "~~~ a") ≡ false)))))))
+    × ((scanDeparts none (0x09 ∷ bytes "a") ≡ false)
+    × ((scanDeparts (ticks 3) (bytes "```" ++ (0x09 ∷ [])) ≡ false)
+    × (departs (ticks 3) (bytes "~~~ a") ≡ false)))))))))

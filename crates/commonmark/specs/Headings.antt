@@ -74,7 +74,9 @@ EachParts =
     × (Parts tabAfterHashes (0x23 ∷ 0x09 ∷ bytes "a") none (heading 1 (bytes "a"))
     × (Parts bareHashes (bytes "##") none (heading 2 [])
     × (Parts closingRun (bytes "# a #") (heading 1 (bytes "a #")) (heading 1 (bytes "a"))
-    × Parts otherSpaceBytes (bytes "# a" ++ (0x0B ∷ [])) (heading 1 (bytes "a")) (heading 1 (0x61 ∷ 0x0B ∷ [])))))
+    × (Parts closingRun (bytes "# a" ++ (0x09 ∷ bytes "#")) (heading 1 (0x61 ∷ 0x09 ∷ bytes "#")) (heading 1 (bytes "a"))
+    × (Parts otherSpaceBytes (bytes "# " ++ (0x0B ∷ bytes "a")) (heading 1 (bytes "a")) (heading 1 (0x0B ∷ bytes "a"))
+    × Parts otherSpaceBytes (bytes "# a" ++ (0x0B ∷ [])) (heading 1 (bytes "a")) (heading 1 (0x61 ∷ 0x0B ∷ [])))))))
 
 -- lines on which none of them holds
 abbrev pub NoneHolds : Type 0
@@ -86,4 +88,6 @@ NoneHolds =
     × ((departs (bytes "####### a #") ≡ false)
     × ((departs (bytes "    # a") ≡ false)
     × ((departs (bytes " #a") ≡ false)
-    × (departs [] ≡ false)))))))
+    × ((departs (bytes "# a" ++ (0x09 ∷ [])) ≡ false)
+    × ((departs (bytes "# ") ≡ false)
+    × (departs [] ≡ false)))))))))

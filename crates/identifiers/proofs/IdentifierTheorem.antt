@@ -65,7 +65,7 @@ same-identifier t d =
 
 pub each-parts : EachParts
 unfolding underscore bracket markAtEnd otherSpace any slug plainFrom shows markupAfter anchorOf identifier trim trimStart trimEnd lead kept first afterLast isSpace lower
-each-parts = ((refl, (refl, refl)), ((refl, (refl, refl)), ((refl, (refl, refl)), (refl, (refl, refl)))))
+each-parts = ((refl, (refl, refl)), ((refl, (refl, refl)), ((refl, (refl, refl)), ((refl, (refl, refl)), (refl, (refl, refl))))))
 
 pub none-holds : NoneHolds
 unfolding departs underscore bracket markAtEnd otherSpace any plainFrom shows markupAfter isSpace

@@ -54,7 +54,8 @@ EachParts =
     Parts underscore (bytes "q_1") (bytes "q1") (bytes "q_1")
     × (Parts bracket (bytes "a [b](c") (bytes "a-b") (bytes "a-bc")
     × (Parts markAtEnd (bytes "* a") (bytes "a") (bytes "-a")
-    × Parts otherSpace (0x61 ∷ 0x09 ∷ bytes "b") (bytes "ab") (bytes "a-b")))
+    × (Parts otherSpace (0x61 ∷ 0x0B ∷ 0x0C ∷ 0x0D ∷ bytes "b") (bytes "ab") (bytes "a---b")
+    × Parts otherSpace (0x61 ∷ 0x09 ∷ bytes "b") (bytes "ab") (bytes "a-b"))))
 
 -- texts on which none of them holds
 abbrev pub NoneHolds : Type 0
