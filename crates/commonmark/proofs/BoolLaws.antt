@@ -1,6 +1,10 @@
 -- Laws of tests. Assumes nothing.
-use mathlib.Core.Path.{_≡_, refl, sym}
-use mathlib.Core.Bool.{Bool, true, false, not, _&&_, false≢true}
+use mathlib.Core.Path.{_≡_, refl, sym, _∙_}
+use mathlib.Core.Bool.{Bool, true, false, not, _&&_, _||_, false≢true}
+use Rattle.text.proofs.BytesLaws.{or-left, or-right}
+
+-- for `search`: of a list of tests none of which holds, one does not hold
+pub ruleset of-list = (or-left, or-right)
 
 -- the second of two tests that do not both hold
 pub second : (a b : Bool) → a ≡ true → (a && b) ≡ false → b ≡ false
@@ -11,9 +15,18 @@ pub double : (b : Bool) → not b ≡ false → b ≡ true
 double true h = refl
 double false h = absurd (false≢true (sym h))
 
+pub negated : (b : Bool) → not b ≡ true → b ≡ false
+negated true h = sym h
+negated false h = refl
+
 pub and-false : (a b : Bool) → (a && (false && b)) ≡ false
 and-false true b = refl
 and-false false b = refl
+
+pub and-last : (a b : Bool) → (a && (b && false)) ≡ false
+and-last true true = refl
+and-last true false = refl
+and-last false b = refl
 
 pub and-left : (a b : Bool) → (a && b) ≡ true → a ≡ true
 and-left true b h = refl
@@ -26,3 +39,12 @@ and-right false b h = absurd (false≢true h)
 pub and-true : (a : Bool) → (a && true) ≡ false → a ≡ false
 and-true true h = h
 and-true false h = refl
+
+pub or-first : (a b : Bool) → b ≡ false → (a || b) ≡ true → a ≡ true
+or-first true b e h = refl
+or-first false b e h = absurd (false≢true (sym e ∙ h))
+
+-- of two tests one holds
+pub either : {C : Type 0} (a b : Bool) → (a ≡ true → C) → (b ≡ true → C) → (a || b) ≡ true → C
+either true b p q h = p refl
+either false b p q h = q h

@@ -16,7 +16,7 @@ use Rattle.anchor.specs.Anchor.{isMark, isKept, shows, markupAfter, plainFrom, 
 use Rattle.anchor.specs.declared.Markup.{Markup}
 use Rattle.anchor.specs.declared.Markup.the-variants.{Written, Bracket, Behind, Target}
 use Rattle.commonmark.specs.Headings.{isSpaced}
-use Rattle.commonmark.proofs.BoolLaws.{double, and-true}
+use Rattle.commonmark.proofs.BoolLaws.{of-list, double, and-true}
 use Rattle.identifiers.specs.Identifiers.{isLeft, identifier, anyFrom, underscore, target, markAtEnd, otherSpace, departsAt, departs, SameIdentifier, EachParts, NoneHolds}
 
 -- a text with no space byte at its ends is trimmed already
@@ -35,14 +35,14 @@ trim-none (x ∷ s) h = rw (or-left (isSpace x) _ h, last-other x s h) (take-len
 -- what does not hold of a byte that does not depart, one law for each departure
 module _ (m : Markup) (x : ℕ) (d : departsAt m x ≡ false) where
   no-underscore : shows m x ≡ false → eqb x 0x5F ≡ false
-  no-underscore h = let u : underscore m x ≡ false = search (or-left, or-right) in and-true (eqb x 0x5F) (rw h at u)
+  no-underscore h = let u : underscore m x ≡ false = search of-list in and-true (eqb x 0x5F) (rw h at u)
 
   no-target : target m x ≡ false
-  no-target = search (or-left, or-right)
+  no-target = search of-list
 
   no-other-space : isSpace x ≡ eqb x 0x20
   unfolding isSpace
-  no-other-space = let o : otherSpace m x ≡ false = search (or-left, or-right) in go (eqb x 0x20) refl o
+  no-other-space = let o : otherSpace m x ≡ false = search of-list in go (eqb x 0x20) refl o
     where
       go : (y : Bool) → eqb x 0x20 ≡ y → (isSpace x && not y) ≡ false → isSpace x ≡ y
       go true e h = rw (eqb-true x 0x20 e)
