@@ -1,6 +1,6 @@
 -- Laws of tests. Assumes nothing.
 use mathlib.Core.Path.{_≡_, refl, sym, _∙_}
-use mathlib.Core.Bool.{Bool, true, false, not, _&&_, _||_, false≢true}
+use mathlib.Core.Bool.{Bool, true, false, _&&_, _||_, false≢true}
 use Rattle.text.proofs.BytesLaws.{or-left, or-right}
 
 -- for `search`: of a list of tests none of which holds, one does not hold
@@ -10,14 +10,6 @@ pub ruleset of-list = (or-left, or-right)
 pub second : (a b : Bool) → a ≡ true → (a && b) ≡ false → b ≡ false
 second true b e h = h
 second false b e h = absurd (false≢true e)
-
-pub double : (b : Bool) → not b ≡ false → b ≡ true
-double true h = refl
-double false h = absurd (false≢true (sym h))
-
-pub negated : (b : Bool) → not b ≡ true → b ≡ false
-negated true h = sym h
-negated false h = refl
 
 pub and-false : (a b : Bool) → (a && (false && b)) ≡ false
 and-false true b = refl

@@ -5,7 +5,7 @@ use mathlib.Core.Bool.{Bool, true, false, cond, not, _&&_, _||_, false≢true}
 use mathlib.Core.List.{List, [], _∷_, _++_}
 use mathlib.Core.Option.{Option, none, some}
 use native.Mathlib.Omega.{arith}
-use borrow.Author.Tests.{eqb-true, eqb-false, le-leb, lt-leb, leb-true, leb-false, ltb-true, ltb-false}
+use borrow.Author.Tests.{not-true, not-false, eqb-true, eqb-false, le-leb, lt-leb, leb-true, leb-false, ltb-true, ltb-false}
 use lib.Dec.{eqb, leb, ltb}
 use Rattle.text.specs.Bytes.{is, any}
 use Rattle.text.specs.Space.{lead, trimStart}
@@ -16,7 +16,7 @@ use Rattle.heading.specs.Walk.{closes, sameFence, stepAfter, outsideAfter}
 use Rattle.commonmark.specs.Strip.{ended, isShown, indent}
 use Rattle.commonmark.specs.Fenced.{Mark, backtick, tilde, CodeFence, byteOf, unindented, run, info, isInfo, opensWith, codeOpener, closesCode, codeAfter}
 use Rattle.commonmark.specs.Fences.{threeOf, isSeen, indentedByFour, otherSpaceBefore, backtickInInfo, shorterCloser, textAfterCloser, departs, kindOfMark, asFence, IsFence, SameFence, OtherFence}
-use Rattle.commonmark.proofs.BoolLaws.{of-list, second, double, negated, and-false, and-last, and-left, and-right, either}
+use Rattle.commonmark.proofs.BoolLaws.{of-list, second, and-false, and-last, and-left, and-right, either}
 use Rattle.commonmark.proofs.LineLaws.{by-ended, three-cr}
 use Rattle.commonmark.proofs.FenceLaws.{trimmed, unseen, seen, not-both, stray}
 
@@ -31,7 +31,7 @@ module _ (o : Option CodeFence) (l : List ℕ) (d : departs o l ≡ false) (s : 
 
   no-other-space : lead l ≡ indent l
   unfolding departs otherSpaceBefore
-  no-other-space = let h : otherSpaceBefore o l ≡ false = search of-list in eqb-true (lead l) (indent l) (double _ (second _ _ s h))
+  no-other-space = let h : otherSpaceBefore o l ≡ false = search of-list in eqb-true (lead l) (indent l) (not-false _ (second _ _ s h))
 
 no-backtick : (l : List ℕ) → departs none l ≡ false → threeOf backtick l ≡ true → lead l ≡ indent l → isInfo backtick (info backtick (unindented l)) ≡ true
 unfolding departs backtickInInfo
@@ -140,7 +140,7 @@ space-apart : (o : Option CodeFence) (l : List ℕ) → IsFence o → otherSpace
 unfolding otherSpaceBefore
 space-apart o l h k = record {
   seen = and-left (isSeen o l) _ k;
-  missed = spaced o l h (λ e. absurd (eqb-false (lead l) (indent l) (negated _ (and-right (isSeen o l) _ k)) e));
+  missed = spaced o l h (λ e. absurd (eqb-false (lead l) (indent l) (not-true _ (and-right (isSeen o l) _ k)) e));
 }
 
 pub one-kind : (l : List ℕ) (b : Bool) → threeOf tilde l ≡ b → threeOf backtick l ≡ true → b ≡ false

@@ -4,7 +4,7 @@ use mathlib.Core.Path.{_≡_, refl, sym, _∙_, ap}
 use mathlib.Core.Bool.{Bool, true, false, cond, not, _&&_, _||_, false≢true}
 use mathlib.Core.List.{List, [], _∷_}
 use native.Mathlib.Omega.{arith}
-use borrow.Author.Tests.{eqb-true, ltb-true}
+use borrow.Author.Tests.{not-true, not-false, eqb-true, ltb-true}
 use lib.ListN.{length, take, drop, getD, length-take}
 use lib.Seq.{length-take-le, getD-take, take-length}
 use lib.Dec.{eqb, ltb}
@@ -14,7 +14,7 @@ use Rattle.text.proofs.BytesLaws.{or-left, or-right, after-le, after-hit}
 use Rattle.commonmark.specs.Strip.{isBlankByte, isShown, strip, stripStart, stripEnd}
 use Rattle.commonmark.specs.Atx.{runStart, closesAt, isClosed, unclosed}
 use Rattle.commonmark.specs.Headings.{isSpaced}
-use Rattle.commonmark.proofs.BoolLaws.{double, negated, and-left, or-first}
+use Rattle.commonmark.proofs.BoolLaws.{and-left, or-first}
 
 -- the first byte of a text, and the byte before a place, pass a test
 abbrev HeadIs : (ℕ → Bool) → List ℕ → Type 0
@@ -127,7 +127,7 @@ ends-other r zero p h l = refl
 ends-other [] (suc k) p h l = refl
 ends-other (x ∷ r) (suc k) p h l =
     let n : length (take k r) ≡ k = length-take-le k r (omega arith) in
-    rw (negated (isSpace x) h, n, getD-take (suc k) (x ∷ r) k 0 (omega arith), negated (isSpace (getD (x ∷ r) k 0)) l)
+    rw (not-true (isSpace x) h, n, getD-take (suc k) (x ∷ r) k 0 (omega arith), not-true (isSpace (getD (x ∷ r) k 0)) l)
 
 pub trim-ends : (s : List ℕ) → isSpaced (trim s) ≡ false
 unfolding trim trimStart trimEnd lead kept
@@ -155,7 +155,7 @@ closed-last : (x : ℕ) (s : List ℕ) → isClosed (x ∷ s) ≡ true → isSpa
 unfolding isClosed runStart isSpace
 closed-last x s h =
     let y : ℕ = getD (x ∷ s) (length s) 0 in
-    rw (eqb-true y 0x23 (double (eqb y 0x23) (run-last (λ z. not (is 0x23 z)) x s (ltb-true (runStart (x ∷ s)) (length (x ∷ s)) (and-left _ _ h)))))
+    rw (eqb-true y 0x23 (not-false (eqb y 0x23) (run-last (λ z. not (is 0x23 z)) x s (ltb-true (runStart (x ∷ s)) (length (x ∷ s)) (and-left _ _ h)))))
 
 kept-start : (x : ℕ) (s : List ℕ) (k : ℕ) → 0 < k → isShown x ≡ true → isSpace x ≡ true → isSpaced (stripEnd (take k (x ∷ s))) ≡ true
 unfolding stripEnd

@@ -59,6 +59,10 @@ departs t = markAtEnd t || somewhere departsAt t
 abbrev pub SameIdentifier : Type 0
 SameIdentifier = (t : List ℕ) → departs t ≡ false → slug t ≡ identifier t
 
+-- and where one of them holds, it is not
+abbrev pub OtherIdentifier : Type 0
+OtherIdentifier = (t : List ℕ) → departs t ≡ true → slug t ≡ identifier t → ⊥
+
 -- a text on which a departure holds, our anchor and the manual's identifier
 abbrev pub Parts : (List ℕ → Bool) → List ℕ → List ℕ → List ℕ → Type 0
 Parts test t ours theirs = (test t ≡ true) × ((slug t ≡ ours) × (identifier t ≡ theirs))
