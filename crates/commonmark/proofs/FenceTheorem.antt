@@ -23,30 +23,30 @@ use Rattle.commonmark.proofs.FenceLaws.{trimmed, unseen, seen, not-both
 -- what does not hold of a line that does not depart, one law for each departure
 module _ (o : Option CodeFence) (l : List ℕ) (d : departs o l ≡ false) (s : isSeen o l ≡ true) where
   no-indented : leb (indent l) 3 ≡ true
-  unfolding departs indentedByFour
+  unfolding departs
   no-indented =
       let h : indentedByFour o l ≡ false = search of-list in
       let n = leb-false 4 (indent l) (second _ _ s h) in
       le-leb (indent l) 3 (omega arith)
 
   no-other-space : lead l ≡ indent l
-  unfolding departs otherSpaceBefore
+  unfolding departs
   no-other-space = let h : otherSpaceBefore o l ≡ false = search of-list in eqb-true (lead l) (indent l) (not-false _ (second _ _ s h))
 
 no-backtick : (l : List ℕ) → departs none l ≡ false → threeOf backtick l ≡ true → lead l ≡ indent l → isInfo backtick (info backtick (unindented l)) ≡ true
-unfolding departs backtickInInfo
+unfolding departs
 no-backtick l d t e = let h : backtickInInfo none l ≡ false = search of-list in rw (rw (trimmed l e) at (second _ _ t h))
 
 module _ (f : CodeFence) (l : List ℕ) (d : departs (some f) l ≡ false) (t : threeOf (f .mark) l ≡ true) (e : lead l ≡ indent l) where
   no-shorter : leb (f .length) (run (f .mark) (unindented l)) ≡ true
-  unfolding departs shorterCloser
+  unfolding departs
   no-shorter =
       let h : shorterCloser (some f) l ≡ false = search of-list in
       let n = ltb-false (run (f .mark) (unindented l)) (f .length) (rw (trimmed l e) at (second _ _ t h)) in
       le-leb (f .length) (run (f .mark) (unindented l)) (omega arith)
 
   no-text : any isShown (info (f .mark) (unindented l)) ≡ false
-  unfolding departs textAfterCloser
+  unfolding departs
   no-text = let h : textAfterCloser (some f) l ≡ false = search of-list in rw (trimmed l e) at (second _ _ t h)
 
 -- an opener
@@ -126,7 +126,7 @@ spaced o l h k = go o h k (eqb (lead l) (indent l)) refl
     go (some f) h k false e = unclosing f l (omega (arith, h, stray (f .mark) l (eqb-false (lead l) (indent l) e)))
 
 indented-apart : (o : Option CodeFence) (l : List ℕ) → indentedByFour o l ≡ true → Apart o l
-unfolding indentedByFour opensWith closesCode
+unfolding opensWith closesCode
 indented-apart o l h = record {
   seen = and-left (isSeen o l) _ h;
   missed = go o (lt-leb (indent l) 3 (omega (arith, leb-true 4 (indent l) (and-right (isSeen o l) _ h))));
@@ -137,7 +137,6 @@ indented-apart o l h = record {
     go (some f) n = rw n
 
 space-apart : (o : Option CodeFence) (l : List ℕ) → IsFence o → otherSpaceBefore o l ≡ true → Apart o l
-unfolding otherSpaceBefore
 space-apart o l h k = record {
   seen = and-left (isSeen o l) _ k;
   missed = spaced o l h (λ e. absurd (eqb-false (lead l) (indent l) (not-true _ (and-right (isSeen o l) _ k)) e));
@@ -148,7 +147,7 @@ one-kind l true q p = absurd (false≢true (sym (not-both l q) ∙ p))
 one-kind l false q p = refl
 
 backtick-apart : (o : Option CodeFence) (l : List ℕ) → IsFence o → backtickInInfo o l ≡ true → Apart o l
-unfolding backtickInInfo opensWith
+unfolding opensWith
 backtick-apart (some f) l h k = absurd (false≢true k)
 backtick-apart none l h k =
     let t = and-left (threeOf backtick l) _ k in
@@ -159,7 +158,6 @@ backtick-apart none l h k =
     }
 
 shorter-apart : (o : Option CodeFence) (l : List ℕ) → IsFence o → shorterCloser o l ≡ true → Apart o l
-unfolding shorterCloser
 shorter-apart none l h k = absurd (false≢true k)
 shorter-apart (some f) l h k = record {
   seen = and-left (threeOf (f .mark) l) _ k;
@@ -167,7 +165,7 @@ shorter-apart (some f) l h k = record {
 }
 
 text-apart : (o : Option CodeFence) (l : List ℕ) → IsFence o → textAfterCloser o l ≡ true → Apart o l
-unfolding textAfterCloser closesCode
+unfolding closesCode
 text-apart none l h k = absurd (false≢true k)
 text-apart (some f) l h k = record {
   seen = and-left (threeOf (f .mark) l) _ k;

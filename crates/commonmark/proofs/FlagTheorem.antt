@@ -92,7 +92,7 @@ code-opens none = refl
 code-opens (some f) = mark-opens (f .mark)
 
 same : (o : Option CodeFence) (st : State) (n at : ℕ) (l : List ℕ) → IsFence o → st .fence ≡ isOpen o → scanDeparts o l ≡ false → cond (isFence l) (not (st .fence)) (st .fence) ≡ isOpen (codeAfter o l)
-unfolding scanDeparts otherKindCloses
+unfolding scanDeparts
 same none st n at l h e d = go (isFence l) ∙ (either-kind l ∙ (sym (seen-opens l) ∙ (ap opens (opened l (threeOf backtick l) (threeOf tilde l) refl refl (or-right (otherKindCloses none l) _ d)) ∙ code-opens (codeOpener l))))
   where
     go : (b : Bool) → cond b (not (st .fence)) (st .fence) ≡ b
@@ -122,7 +122,6 @@ own-unseen backtick l h = not-both l h
 own-unseen tilde l h = one-kind l (threeOf tilde l) refl h
 
 other-apart : (o : Option CodeFence) (l : List ℕ) → IsFence o → otherKindCloses o l ≡ true → (isFence l ≡ true) × IsMissed o l
-unfolding otherKindCloses
 other-apart none l h k = absurd (false≢true k)
 other-apart (some f) l h k = (mark-fence (otherOf (f .mark)) l k, not-closing f l (own-unseen (f .mark) l k) h)
 
@@ -164,13 +163,13 @@ stays-fence (some f) l h = go (closesCode f l)
     go false = h
 
 pub each-parts : EachParts
-unfolding ended indentedByFour otherSpaceBefore backtickInInfo shorterCloser textAfterCloser stepAfter outsideAfter closes opener codeOpener opensWith closesCode run indent first any lead trimStart isSpace startsWith commentAfter
+unfolding ended stepAfter outsideAfter closes opener codeOpener opensWith closesCode run indent first any lead trimStart isSpace startsWith commentAfter
 each-parts = ((refl, (refl, refl)), ((refl, (refl, refl)), ((refl, (refl, refl)), ((refl, (refl, refl)), ((refl, (refl, refl)), ((refl, (refl, refl)), ((refl, (refl, refl)), (refl, (refl, refl)))))))))
 
 pub other-kind-parts : OtherKindParts
-unfolding otherKindCloses after kindAt kindOf isFence closesCode run indent first lead trimStart isSpace startsWith
+unfolding after kindAt kindOf isFence closesCode run indent first lead trimStart isSpace startsWith
 other-kind-parts = (refl, (refl, refl))
 
 pub none-holds : NoneHolds
-unfolding ended scanDeparts departs indentedByFour otherSpaceBefore backtickInInfo shorterCloser textAfterCloser otherKindCloses run indent first any lead trimStart isSpace startsWith
+unfolding ended scanDeparts departs run indent first any lead trimStart isSpace startsWith
 none-holds = (refl, (refl, (refl, (refl, (refl, (refl, (refl, (refl, (refl, (refl, refl))))))))))

@@ -95,11 +95,10 @@ unlike a b p q e = false≢true (ap isHeading (sym p ∙ e) ∙ q)
 
 -- each departure parts the two
 indented-parts : (l : List ℕ) → indented l ≡ true → asAtx l (headingOf l) ≡ atx l → ⊥
-unfolding indented
 indented-parts l h = unlike _ _ (ours l ∙ rw (spaced-hashes l (and-left _ _ h))) (and-right (leb 1 (indent l)) _ h)
 
 tab-parts : (l : List ℕ) → tabAfterHashes l ≡ true → asAtx l (headingOf l) ≡ atx l → ⊥
-unfolding tabAfterHashes startsWith
+unfolding startsWith
 tab-parts l h = go (behind l) refl (and-right (isOpened l) _ h)
   where
     go : (r : List ℕ) → behind l ≡ r → startsWith (0x09 ∷ []) r ≡ true → asAtx l (headingOf l) ≡ atx l → ⊥
@@ -110,7 +109,7 @@ tab-parts l h = go (behind l) refl (and-right (isOpened l) _ h)
         unlike _ _ (ours l ∙ rw (o, e, t)) (rw (theirs l (unspaced l o), o, e, t))
 
 bare-parts : (l : List ℕ) → bareHashes l ≡ true → asAtx l (headingOf l) ≡ atx l → ⊥
-unfolding bareHashes startsWith
+unfolding startsWith
 bare-parts l h = go (behind l) refl (and-right (isOpened l) _ h)
   where
     go : (r : List ℕ) → behind l ≡ r → eqb (length r) 0 ≡ true → asAtx l (headingOf l) ≡ atx l → ⊥
@@ -118,33 +117,31 @@ bare-parts l h = go (behind l) refl (and-right (isOpened l) _ h)
     go (x ∷ r) e k = absurd (omega (arith, eqb-true (suc (length r)) 0 k))
 
 closing-parts : (l : List ℕ) → closingRun l ≡ true → asAtx l (headingOf l) ≡ atx l → ⊥
-unfolding closingRun
 closing-parts l h e = closed-differs (behind l) (and-right (isOurs l) _ h) (same-text l (and-left (isOurs l) _ h) e)
 
 space-parts : (l : List ℕ) → otherSpaceBytes l ≡ true → asAtx l (headingOf l) ≡ atx l → ⊥
-unfolding otherSpaceBytes
 space-parts l h e = spaced-differs (behind l) (and-right (isOurs l) _ h) (same-text l (and-left (isOurs l) _ h) e)
 
 -- and where none of them holds there is no other
 module _ (l : List ℕ) (d : departs l ≡ false) where
   no-indented : leb 1 (indent l) ≡ true → atx l ≡ none
-  unfolding departs indented
+  unfolding departs
   no-indented s = let n : indented l ≡ false = search of-list in none-is (atx l) (second _ _ s n)
 
   no-tab : isOpened l ≡ true → startsWith (0x09 ∷ []) (behind l) ≡ false
-  unfolding departs tabAfterHashes
+  unfolding departs
   no-tab o = let n : tabAfterHashes l ≡ false = search of-list in second _ _ o n
 
   no-bare : isOpened l ≡ true → eqb (length (behind l)) 0 ≡ false
-  unfolding departs bareHashes
+  unfolding departs
   no-bare o = let n : bareHashes l ≡ false = search of-list in second _ _ o n
 
   no-closing : isOurs l ≡ true → unclosed (strip (behind l)) ≡ strip (behind l)
-  unfolding departs closingRun unclosed
+  unfolding departs unclosed
   no-closing k = let n : closingRun l ≡ false = search of-list in rw (second _ _ k n)
 
   no-space : isOurs l ≡ true → isSpaced (strip (behind l)) ≡ false
-  unfolding departs otherSpaceBytes
+  unfolding departs
   no-space k = let n : otherSpaceBytes l ≡ false = search of-list in second _ _ k n
 
   our-heading : isOurs l ≡ true → asAtx l (headingOf l) ≡ atx l
@@ -200,9 +197,9 @@ pub other-heading : OtherHeading
 other-heading l d e = parts (ended l) d (sym (heading-ended l) ∙ e)
 
 pub each-parts : EachParts
-unfolding ended indented tabAfterHashes bareHashes closingRun otherSpaceBytes isClosed runStart unclosed atx strip stripStart stripEnd indent headingOf textStart textEnd hashes lead kept isSpace first afterLast startsWith
+unfolding ended isClosed runStart unclosed atx strip stripStart stripEnd indent headingOf textStart textEnd hashes lead kept isSpace first afterLast startsWith
 each-parts = ((refl, (refl, refl)), ((refl, (refl, refl)), ((refl, (refl, refl)), ((refl, (refl, refl)), ((refl, (refl, refl)), ((refl, (refl, refl)), ((refl, (refl, refl)), (refl, (refl, refl)))))))))
 
 pub none-holds : NoneHolds
-unfolding ended departs indented tabAfterHashes bareHashes closingRun otherSpaceBytes isClosed runStart unclosed atx strip stripStart stripEnd indent hashes isSpace first afterLast startsWith
+unfolding ended departs isClosed runStart unclosed atx strip stripStart stripEnd indent hashes isSpace first afterLast startsWith
 none-holds = (refl, (refl, (refl, (refl, (refl, (refl, (refl, (refl, (refl, (refl, refl))))))))))

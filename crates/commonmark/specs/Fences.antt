@@ -27,25 +27,25 @@ isSeen none l = threeOf backtick l || threeOf tilde l
 isSeen (some f) l = threeOf (f .mark) l
 
 -- indented by four spaces or more: we open or close, CommonMark does not
-unfoldable pub indentedByFour : Option CodeFence → List ℕ → Bool
+abbrev pub indentedByFour : Option CodeFence → List ℕ → Bool
 indentedByFour o l = isSeen o l && leb 4 (indent l)
 
 -- a tab or another space byte before it: the same
-unfoldable pub otherSpaceBefore : Option CodeFence → List ℕ → Bool
+abbrev pub otherSpaceBefore : Option CodeFence → List ℕ → Bool
 otherSpaceBefore o l = isSeen o l && not (eqb (lead l) (indent l))
 
 -- a backtick in the info string: we open, CommonMark does not
-unfoldable pub backtickInInfo : Option CodeFence → List ℕ → Bool
+abbrev pub backtickInInfo : Option CodeFence → List ℕ → Bool
 backtickInInfo none l = threeOf backtick l && any (is 0x60) (info backtick (trimStart l))
 backtickInInfo (some f) l = false
 
 -- a closer with fewer bytes than the opener: we close, CommonMark does not
-unfoldable pub shorterCloser : Option CodeFence → List ℕ → Bool
+abbrev pub shorterCloser : Option CodeFence → List ℕ → Bool
 shorterCloser none l = false
 shorterCloser (some f) l = threeOf (f .mark) l && ltb (run (f .mark) (trimStart l)) (f .length)
 
 -- text after a closer: the same
-unfoldable pub textAfterCloser : Option CodeFence → List ℕ → Bool
+abbrev pub textAfterCloser : Option CodeFence → List ℕ → Bool
 textAfterCloser none l = false
 textAfterCloser (some f) l = threeOf (f .mark) l && any isShown (info (f .mark) (trimStart l))
 
@@ -54,13 +54,18 @@ abbrev pub otherOf : Mark → Mark
 otherOf backtick = tilde
 otherOf tilde = backtick
 
-unfoldable pub otherKindCloses : Option CodeFence → List ℕ → Bool
+abbrev pub otherKindCloses : Option CodeFence → List ℕ → Bool
 otherKindCloses none l = false
 otherKindCloses (some f) l = threeOf (otherOf (f .mark)) l
 
 -- the list for the heading walk, and that for the scan
 unfoldable pub departs : Option CodeFence → List ℕ → Bool
-departs o l = indentedByFour o l || (otherSpaceBefore o l || (backtickInInfo o l || (shorterCloser o l || textAfterCloser o l)))
+departs o l =
+    indentedByFour o l
+    || (otherSpaceBefore o l
+    || (backtickInInfo o l
+    || (shorterCloser o l
+    || textAfterCloser o l)))
 
 unfoldable pub scanDeparts : Option CodeFence → List ℕ → Bool
 scanDeparts o l = otherKindCloses o l || departs o l

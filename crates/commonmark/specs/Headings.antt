@@ -29,19 +29,19 @@ abbrev pub isOurs : List ℕ → Bool
 isOurs l = isOpened l && startsWith (bytes " ") (behind l)
 
 -- one to three spaces before what is a heading of CommonMark's: none of ours
-unfoldable pub indented : List ℕ → Bool
+abbrev pub indented : List ℕ → Bool
 indented l = leb 1 (indent l) && isHeading (atx l)
 
 -- a tab after the hashes: a heading of CommonMark's, none of ours
-unfoldable pub tabAfterHashes : List ℕ → Bool
+abbrev pub tabAfterHashes : List ℕ → Bool
 tabAfterHashes l = isOpened l && startsWith (0x09 ∷ []) (behind l)
 
 -- hashes alone: a heading of CommonMark's, none of ours
-unfoldable pub bareHashes : List ℕ → Bool
+abbrev pub bareHashes : List ℕ → Bool
 bareHashes l = isOpened l && eqb (length (behind l)) 0
 
 -- a closing run: CommonMark drops it, we keep it
-unfoldable pub closingRun : List ℕ → Bool
+abbrev pub closingRun : List ℕ → Bool
 closingRun l = isOurs l && isClosed (strip (behind l))
 
 -- another space byte at an end of the text, 0B or 0C hex (0A and 0D end a line of CommonMark's): we trim it, CommonMark keeps it
@@ -49,12 +49,17 @@ abbrev pub isSpaced : List ℕ → Bool
 isSpaced [] = false
 isSpaced (x ∷ s) = isSpace x || isSpace (getD (x ∷ s) (length s) 0)
 
-unfoldable pub otherSpaceBytes : List ℕ → Bool
+abbrev pub otherSpaceBytes : List ℕ → Bool
 otherSpaceBytes l = isOurs l && isSpaced (strip (behind l))
 
 -- the list
 unfoldable pub departs : List ℕ → Bool
-departs l = indented l || (tabAfterHashes l || (bareHashes l || (closingRun l || otherSpaceBytes l)))
+departs l =
+    indented l
+    || (tabAfterHashes l
+    || (bareHashes l
+    || (closingRun l
+    || otherSpaceBytes l)))
 
 -- for every line of ours: where none of them holds of CommonMark's line, our heading is CommonMark's
 abbrev pub SameHeading : Type 0

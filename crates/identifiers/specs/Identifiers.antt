@@ -50,7 +50,10 @@ markAtEnd t = isSpaced (plain t)
 
 -- the list
 abbrev pub departsAt : Markup → ℕ → Bool
-departsAt m x = underscore m x || (target m x || otherSpace m x)
+departsAt m x =
+    underscore m x
+    || (target m x
+    || otherSpace m x)
 
 unfoldable pub departs : List ℕ → Bool
 departs t = markAtEnd t || somewhere departsAt t
