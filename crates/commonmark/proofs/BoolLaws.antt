@@ -36,7 +36,8 @@ pub or-first : (a b : Bool) → b ≡ false → (a || b) ≡ true → a ≡ true
 or-first true b e h = refl
 or-first false b e h = absurd (false≢true (sym e ∙ h))
 
--- of two tests one holds
-pub either : {C : Type 0} (a b : Bool) → (a ≡ true → C) → (b ≡ true → C) → (a || b) ≡ true → C
-either true b p q h = p refl
-either false b p q h = q h
+-- what holds where one of a list of tests does, a law for each test
+infixl 30 _or_
+pub _or_ : {a b : Bool} {C : Type 0} → (a ≡ true → C) → (b ≡ true → C) → (a || b) ≡ true → C
+_or_ {a = true} p q h = p refl
+_or_ {a = false} p q h = q h

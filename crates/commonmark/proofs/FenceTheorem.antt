@@ -16,7 +16,7 @@ use Rattle.heading.specs.Walk.{closes, sameFence, stepAfter, outsideAfter}
 use Rattle.commonmark.specs.Strip.{ended, isShown, indent}
 use Rattle.commonmark.specs.Fenced.{Mark, backtick, tilde, CodeFence, byteOf, unindented, run, info, isInfo, opensWith, codeOpener, closesCode, codeAfter}
 use Rattle.commonmark.specs.Fences.{threeOf, isSeen, indentedByFour, otherSpaceBefore, backtickInInfo, shorterCloser, textAfterCloser, departs, kindOfMark, asFence, IsFence, SameFence, OtherFence}
-use Rattle.commonmark.proofs.BoolLaws.{of-list, second, and-false, and-last, and-left, and-right, either}
+use Rattle.commonmark.proofs.BoolLaws.{of-list, second, and-false, and-last, and-left, and-right, _or_}
 use Rattle.commonmark.proofs.LineLaws.{by-ended, three-cr}
 use Rattle.commonmark.proofs.FenceLaws.{trimmed, unseen, seen, not-both, stray}
 
@@ -125,9 +125,9 @@ spaced o l h k = go o h k (eqb (lead l) (indent l)) refl
         none-of m = short m l (rw (stray m l (eqb-false (lead l) (indent l) e)))
     go (some f) h k false e = unclosing f l (omega (arith, h, stray (f .mark) l (eqb-false (lead l) (indent l) e)))
 
-indented-apart : (o : Option CodeFence) (l : List ℕ) → indentedByFour o l ≡ true → Apart o l
+indented-apart : (o : Option CodeFence) (l : List ℕ) → IsFence o → indentedByFour o l ≡ true → Apart o l
 unfolding opensWith closesCode
-indented-apart o l h = record {
+indented-apart o l i h = record {
   seen = and-left (isSeen o l) _ h;
   missed = go o (lt-leb (indent l) 3 (omega (arith, leb-true 4 (indent l) (and-right (isSeen o l) _ h))));
 }
@@ -174,13 +174,12 @@ text-apart (some f) l h k = record {
 
 pub apart : (o : Option CodeFence) (l : List ℕ) → IsFence o → departs o l ≡ true → Apart o l
 unfolding departs
-apart o l h d =
-    either (indentedByFour o l) _ (λ k. indented-apart o l k)
-    (either (otherSpaceBefore o l) _ (λ k. space-apart o l h k)
-    (either (backtickInInfo o l) _ (λ k. backtick-apart o l h k)
-    (either (shorterCloser o l) _ (λ k. shorter-apart o l h k)
-    (λ k. text-apart o l h k))))
-    d
+apart o l h =
+    indented-apart o l h
+    or space-apart o l h
+    or backtick-apart o l h
+    or shorter-apart o l h
+    or text-apart o l h
 
 -- the walk
 after-outside : (comment : Bool) (l : List ℕ) (f : Fence) → outsideAfter comment l f .fence ≡ f

@@ -24,7 +24,7 @@ use Rattle.scan.specs.declared.state.State.{State}
 use Rattle.commonmark.specs.Strip.{ended, indent}
 use Rattle.commonmark.specs.Fenced.{Mark, backtick, tilde, CodeFence, unindented, run, opensWith, codeOpener, closesCode, codeAfter}
 use Rattle.commonmark.specs.Fences.{threeOf, isSeen, otherOf, indentedByFour, otherSpaceBefore, backtickInInfo, shorterCloser, textAfterCloser, otherKindCloses, departs, scanDeparts, kindOfMark, asFence, isOpen, IsFence, SameFlag, OtherFlag, StaysFence, EachParts, OtherKindParts, NoneHolds}
-use Rattle.commonmark.proofs.BoolLaws.{and-left, and-right, either}
+use Rattle.commonmark.proofs.BoolLaws.{and-left, and-right, _or_}
 use Rattle.commonmark.proofs.LineLaws.{by-ended, three-cr}
 use Rattle.commonmark.proofs.FenceLaws.{not-both}
 use Rattle.commonmark.proofs.FenceTheorem.{opened, closed, not-closing, IsMissed, Apart, apart, one-kind, seen-opens, mark-opens}
@@ -125,9 +125,14 @@ other-apart : (o : Option CodeFence) (l : List ℕ) → IsFence o → otherKindC
 other-apart none l h k = absurd (false≢true k)
 other-apart (some f) l h k = (mark-fence (otherOf (f .mark)) l k, not-closing f l (own-unseen (f .mark) l k) h)
 
+walk-apart : (o : Option CodeFence) (l : List ℕ) → IsFence o → departs o l ≡ true → (isFence l ≡ true) × IsMissed o l
+walk-apart o l h d = let a = apart o l h d in (seen-fence o l (a .seen), a .missed)
+
 scan-apart : (o : Option CodeFence) (l : List ℕ) → IsFence o → scanDeparts o l ≡ true → (isFence l ≡ true) × IsMissed o l
 unfolding scanDeparts
-scan-apart o l h d = either (otherKindCloses o l) _ (λ k. other-apart o l h k) (λ k. let a = apart o l h k in (seen-fence o l (a .seen), a .missed)) d
+scan-apart o l h =
+    other-apart o l h
+    or walk-apart o l h
 
 -- a CR at the end of our line is no part of CommonMark's
 fence-cr : (l : List ℕ) → isFence (l ++ (0x0D ∷ [])) ≡ isFence l

@@ -17,7 +17,7 @@ use Rattle.heading.specs.declared.walk.LineKind.the-variants.{Quoted, Heading, 
 use Rattle.commonmark.specs.Strip.{ended, strip, stripStart, stripEnd, indent}
 use Rattle.commonmark.specs.Atx.{Atx, unclosed, isClosed, runStart, atx, atxFrom, asAtx}
 use Rattle.commonmark.specs.Headings.{isHeading, isOpened, isOurs, behind, isSpaced, indented, tabAfterHashes, bareHashes, closingRun, otherSpaceBytes, departs, SameHeading, OtherHeading, EachParts, NoneHolds}
-use Rattle.commonmark.proofs.BoolLaws.{of-list, second, and-left, and-right, either}
+use Rattle.commonmark.proofs.BoolLaws.{of-list, second, and-left, and-right, _or_}
 use Rattle.commonmark.proofs.LineLaws.{by-ended, hashes-cr, behind-cr, starts-cr, trim-cr}
 use Rattle.commonmark.proofs.StripLaws.{trim-strip, spaced-differs, closed-differs}
 
@@ -94,12 +94,12 @@ unlike : (a b : Option Atx) → a ≡ none → isHeading b ≡ true → a ≡ b 
 unlike a b p q e = false≢true (ap isHeading (sym p ∙ e) ∙ q)
 
 -- each departure parts the two
-indented-parts : (l : List ℕ) → indented l ≡ true → asAtx l (headingOf l) ≡ atx l → ⊥
-indented-parts l h = unlike _ _ (ours l ∙ rw (spaced-hashes l (and-left _ _ h))) (and-right (leb 1 (indent l)) _ h)
+indented-parts : (l : List ℕ) → asAtx l (headingOf l) ≡ atx l → indented l ≡ true → ⊥
+indented-parts l e h = unlike _ _ (ours l ∙ rw (spaced-hashes l (and-left _ _ h))) (and-right (leb 1 (indent l)) _ h) e
 
-tab-parts : (l : List ℕ) → tabAfterHashes l ≡ true → asAtx l (headingOf l) ≡ atx l → ⊥
+tab-parts : (l : List ℕ) → asAtx l (headingOf l) ≡ atx l → tabAfterHashes l ≡ true → ⊥
 unfolding startsWith
-tab-parts l h = go (behind l) refl (and-right (isOpened l) _ h)
+tab-parts l q h = go (behind l) refl (and-right (isOpened l) _ h) q
   where
     go : (r : List ℕ) → behind l ≡ r → startsWith (0x09 ∷ []) r ≡ true → asAtx l (headingOf l) ≡ atx l → ⊥
     go [] e k = absurd (false≢true k)
@@ -108,19 +108,19 @@ tab-parts l h = go (behind l) refl (and-right (isOpened l) _ h)
         let t = eqb-true x 0x09 (and-left _ _ k) in
         unlike _ _ (ours l ∙ rw (o, e, t)) (rw (theirs l (unspaced l o), o, e, t))
 
-bare-parts : (l : List ℕ) → bareHashes l ≡ true → asAtx l (headingOf l) ≡ atx l → ⊥
+bare-parts : (l : List ℕ) → asAtx l (headingOf l) ≡ atx l → bareHashes l ≡ true → ⊥
 unfolding startsWith
-bare-parts l h = go (behind l) refl (and-right (isOpened l) _ h)
+bare-parts l q h = go (behind l) refl (and-right (isOpened l) _ h) q
   where
     go : (r : List ℕ) → behind l ≡ r → eqb (length r) 0 ≡ true → asAtx l (headingOf l) ≡ atx l → ⊥
     go [] e k = let o = and-left _ _ h in unlike _ _ (ours l ∙ rw (o, e)) (rw (theirs l (unspaced l o), o, e))
     go (x ∷ r) e k = absurd (omega (arith, eqb-true (suc (length r)) 0 k))
 
-closing-parts : (l : List ℕ) → closingRun l ≡ true → asAtx l (headingOf l) ≡ atx l → ⊥
-closing-parts l h e = closed-differs (behind l) (and-right (isOurs l) _ h) (same-text l (and-left (isOurs l) _ h) e)
+closing-parts : (l : List ℕ) → asAtx l (headingOf l) ≡ atx l → closingRun l ≡ true → ⊥
+closing-parts l e h = closed-differs (behind l) (and-right (isOurs l) _ h) (same-text l (and-left (isOurs l) _ h) e)
 
-space-parts : (l : List ℕ) → otherSpaceBytes l ≡ true → asAtx l (headingOf l) ≡ atx l → ⊥
-space-parts l h e = spaced-differs (behind l) (and-right (isOurs l) _ h) (same-text l (and-left (isOurs l) _ h) e)
+space-parts : (l : List ℕ) → asAtx l (headingOf l) ≡ atx l → otherSpaceBytes l ≡ true → ⊥
+space-parts l e h = spaced-differs (behind l) (and-right (isOurs l) _ h) (same-text l (and-left (isOurs l) _ h) e)
 
 -- and where none of them holds there is no other
 module _ (l : List ℕ) (d : departs l ≡ false) where
@@ -172,15 +172,14 @@ module _ (l : List ℕ) (d : departs l ≡ false) where
   same true o = opened o
   same false o = unopened o
 
-parts : (l : List ℕ) → departs l ≡ true → asAtx l (headingOf l) ≡ atx l → ⊥
+parts : (l : List ℕ) → asAtx l (headingOf l) ≡ atx l → departs l ≡ true → ⊥
 unfolding departs
-parts l d e =
-    either (indented l) _ (λ h. indented-parts l h e)
-    (either (tabAfterHashes l) _ (λ h. tab-parts l h e)
-    (either (bareHashes l) _ (λ h. bare-parts l h e)
-    (either (closingRun l) _ (λ h. closing-parts l h e)
-    (λ h. space-parts l h e))))
-    d
+parts l e =
+    indented-parts l e
+    or tab-parts l e
+    or bare-parts l e
+    or closing-parts l e
+    or space-parts l e
 
 -- a CR at the end of our line is no part of CommonMark's
 heading-cr : (l : List ℕ) → asAtx (l ++ (0x0D ∷ [])) (headingOf (l ++ (0x0D ∷ []))) ≡ asAtx l (headingOf l)
@@ -194,7 +193,7 @@ pub same-heading : SameHeading
 same-heading l d = heading-ended l ∙ same (ended l) d (isOpened (ended l)) refl
 
 pub other-heading : OtherHeading
-other-heading l d e = parts (ended l) d (sym (heading-ended l) ∙ e)
+other-heading l d e = parts (ended l) (sym (heading-ended l) ∙ e) d
 
 pub each-parts : EachParts
 unfolding ended isClosed runStart unclosed atx strip stripStart stripEnd indent headingOf textStart textEnd hashes lead kept isSpace first afterLast startsWith

@@ -62,10 +62,10 @@ otherKindCloses (some f) l = threeOf (otherOf (f .mark)) l
 unfoldable pub departs : Option CodeFence → List ℕ → Bool
 departs o l =
     indentedByFour o l
-    || (otherSpaceBefore o l
-    || (backtickInInfo o l
-    || (shorterCloser o l
-    || textAfterCloser o l)))
+    || otherSpaceBefore o l
+    || backtickInInfo o l
+    || shorterCloser o l
+    || textAfterCloser o l
 
 unfoldable pub scanDeparts : Option CodeFence → List ℕ → Bool
 scanDeparts o l = otherKindCloses o l || departs o l

@@ -56,10 +56,10 @@ otherSpaceBytes l = isOurs l && isSpaced (strip (behind l))
 unfoldable pub departs : List ℕ → Bool
 departs l =
     indented l
-    || (tabAfterHashes l
-    || (bareHashes l
-    || (closingRun l
-    || otherSpaceBytes l)))
+    || tabAfterHashes l
+    || bareHashes l
+    || closingRun l
+    || otherSpaceBytes l
 
 -- for every line of ours: where none of them holds of CommonMark's line, our heading is CommonMark's
 abbrev pub SameHeading : Type 0

@@ -16,7 +16,7 @@ use Rattle.anchor.specs.Anchor.{isMark, isKept, shows, markupAfter, plainFrom, 
 use Rattle.anchor.specs.declared.Markup.{Markup}
 use Rattle.anchor.specs.declared.Markup.the-variants.{Written, Bracket, Behind, Target}
 use Rattle.commonmark.specs.Headings.{isSpaced}
-use Rattle.commonmark.proofs.BoolLaws.{of-list, second, and-true, and-left, and-right, or-first, either}
+use Rattle.commonmark.proofs.BoolLaws.{of-list, second, and-true, and-left, and-right, or-first, _or_}
 use Rattle.identifiers.specs.Identifiers.{isLeft, identifier, anyFrom, somewhere, underscore, target, markAtEnd, otherSpace, departsAt, departs, SameIdentifier, OtherIdentifier, EachParts, NoneHolds}
 
 -- a text with no space byte at its ends is trimmed already
@@ -54,12 +54,12 @@ sign-removed x b h e = rw (eqb-true x b e) h
 
 mark-removed : (m : Markup) (x : ℕ) → shows m x ≡ false → departsAt m x ≡ false → isMark x ≡ true → (isLeft x || isSpace x) ≡ false
 unfolding isSpace lower
-mark-removed m x s d h = go (eqb x 0x60) (eqb x 0x2A) refl refl h
+mark-removed m x s d h = go (eqb x 0x60) (eqb x 0x2A) refl refl
   where
-    go : (y z : Bool) → eqb x 0x60 ≡ y → eqb x 0x2A ≡ z → (y || (z || eqb x 0x5F)) ≡ true → (isLeft x || isSpace x) ≡ false
-    go true z p q h = sign-removed x 0x60 refl p
-    go false true p q h = sign-removed x 0x2A refl q
-    go false false p q h = absurd (false≢true (sym (no-underscore m x d s) ∙ h))
+    go : (y z : Bool) → eqb x 0x60 ≡ y → eqb x 0x2A ≡ z → (isLeft x || isSpace x) ≡ false
+    go true z p q = sign-removed x 0x60 refl p
+    go false true p q = sign-removed x 0x2A refl q
+    go false false p q = absurd (false≢true (sym (no-underscore m x d s) ∙ (rw (p, q) at h)))
 
 removed : (m : Markup) (x : ℕ) → shows m x ≡ false → departsAt m x ≡ false → (isLeft x || isSpace x) ≡ false
 unfolding shows isSpace lower
@@ -132,9 +132,9 @@ space-less m x h =
 
 less : (m : Markup) (x : ℕ) → departsAt m x ≡ true → ours m x < theirs x
 less m x =
-    either (underscore m x) _ (λ h. underscore-less m x h)
-    (either (target m x) _ (λ h. target-less m x h)
-    (λ h. space-less m x h))
+    target-less m x
+    or underscore-less m x
+    or space-less m x
 
 equal : (m : Markup) (x : ℕ) → departsAt m x ≡ false → ours m x ≡ theirs x
 equal m x d = go (shows m x) refl

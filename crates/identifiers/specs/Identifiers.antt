@@ -51,9 +51,9 @@ markAtEnd t = isSpaced (plain t)
 -- the list
 abbrev pub departsAt : Markup → ℕ → Bool
 departsAt m x =
-    underscore m x
-    || (target m x
-    || otherSpace m x)
+    target m x
+    || underscore m x
+    || otherSpace m x
 
 unfoldable pub departs : List ℕ → Bool
 departs t = markAtEnd t || somewhere departsAt t
