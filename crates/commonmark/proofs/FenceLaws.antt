@@ -4,7 +4,7 @@ use mathlib.Core.Path.{_≡_, refl, sym, _∙_, ap}
 use mathlib.Core.Bool.{Bool, true, false, cond, not, _&&_, _||_, false≢true}
 use mathlib.Core.List.{List, [], _∷_}
 use native.Mathlib.Omega.{arith}
-use borrow.Author.Tests.{eqb-true, le-leb, lt-leb}
+use borrow.Author.Tests.{eqb-true, le-leb, lt-leb, leb-false}
 use lib.ListN.{drop}
 use lib.Dec.{eqb, leb}
 use Rattle.text.specs.Bytes.{is, first}
@@ -100,3 +100,20 @@ not-both l h = go (trimStart l) (starts-cons tilde (trimStart l) h)
     go : (t : List ℕ) → HeadIs tilde t → starts backtick t ≡ false
     go [] e = refl
     go (x ∷ t) e = rw e
+
+-- a run behind other bytes than spaces is none
+run-head : (m : Mark) (t : List ℕ) → leb 1 (run m t) ≡ true → HeadIs m t
+unfolding run first
+run-head m [] h = absurd (false≢true h)
+run-head m (x ∷ t) h = go (eqb x (byteOf m)) refl h
+  where
+    go : (b : Bool) → eqb x (byteOf m) ≡ b → leb 1 (cond {A = ℕ} (not b) 0 (suc (run m t))) ≡ true → x ≡ byteOf m
+    go true e h = eqb-true x (byteOf m) e
+    go false e h = absurd (false≢true h)
+
+pub stray : (m : Mark) (l : List ℕ) → (lead l ≡ indent l → ⊥) → run m (unindented l) ≡ 0
+stray m l n = go (leb 1 (run m (unindented l))) refl
+  where
+    go : (b : Bool) → leb 1 (run m (unindented l)) ≡ b → run m (unindented l) ≡ 0
+    go true e = absurd (n (lead-indent m l (run-head m (unindented l) e)))
+    go false e = omega (arith, leb-false 1 (run m (unindented l)) e)

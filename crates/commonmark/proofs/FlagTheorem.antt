@@ -1,8 +1,8 @@
--- Where no named departure holds the scan is in a fence behind a line exactly where CommonMark is. Assumes nothing.
+-- The scan is in a fence behind a line exactly where CommonMark is where no named departure holds, and only there. Assumes nothing.
 use Prim.Native.Nat.{ℕ, _≤_}
 use mathlib.Core.Path.{_≡_, refl, sym, _∙_, ap}
-use mathlib.Core.Bool.{Bool, true, false, cond, not, _&&_, _||_}
-use mathlib.Core.List.{List}
+use mathlib.Core.Bool.{Bool, true, false, cond, not, _&&_, _||_, false≢true}
+use mathlib.Core.List.{List, [], _∷_, _++_}
 use mathlib.Core.Option.{Option, none, some}
 use borrow.Author.Tests.{leb-true}
 use lib.Dec.{leb}
@@ -21,11 +21,13 @@ use Rattle.marker.specs.declared.line.Kind.the-variants.{Plain, Fence, Fault, C
 use Rattle.heading.specs.Walk.{closes, stepAfter, outsideAfter, commentAfter}
 use Rattle.scan.specs.Scan.{after, kindAt, isOpen as isOpenRegion}
 use Rattle.scan.specs.declared.state.State.{State}
-use Rattle.commonmark.specs.Strip.{indent}
+use Rattle.commonmark.specs.Strip.{ended, indent}
 use Rattle.commonmark.specs.Fenced.{Mark, backtick, tilde, CodeFence, unindented, run, opensWith, codeOpener, closesCode, codeAfter}
-use Rattle.commonmark.specs.Fences.{threeOf, otherOf, indentedByFour, otherSpaceBefore, backtickInInfo, shorterCloser, textAfterCloser, otherKindCloses, departs, scanDeparts, kindOfMark, asFence, isOpen, IsFence, SameFlag, StaysFence, EachParts, OtherKindParts, NoneHolds}
-use Rattle.commonmark.proofs.BoolLaws.{and-left, and-right}
-use Rattle.commonmark.proofs.FenceTheorem.{opened, closed}
+use Rattle.commonmark.specs.Fences.{threeOf, isSeen, otherOf, indentedByFour, otherSpaceBefore, backtickInInfo, shorterCloser, textAfterCloser, otherKindCloses, departs, scanDeparts, kindOfMark, asFence, isOpen, IsFence, SameFlag, OtherFlag, StaysFence, EachParts, OtherKindParts, NoneHolds}
+use Rattle.commonmark.proofs.BoolLaws.{and-left, and-right, _or_}
+use Rattle.commonmark.proofs.LineLaws.{by-ended, three-cr}
+use Rattle.commonmark.proofs.FenceLaws.{not-both}
+use Rattle.commonmark.proofs.FenceTheorem.{opened, closed, not-closing, IsMissed, Apart, apart, one-kind, seen-opens, mark-opens}
 
 -- a kind that is no fence
 abbrev IsOther : Kind → Type 0
@@ -72,9 +74,9 @@ flag st n at l true e = rw e
 flag st n at l false e = rw e (kept st n at (markedKind (st .fence) (isOpenRegion (st .region)) at l (find OPEN l)) (other-marked (st .fence) (isOpenRegion (st .region)) at l (find OPEN l)))
 
 -- a fence of either kind
-either : (l : List ℕ) → isFence l ≡ (threeOf backtick l || threeOf tilde l)
+either-kind : (l : List ℕ) → isFence l ≡ (threeOf backtick l || threeOf tilde l)
 unfolding isFence
-either l = refl
+either-kind l = refl
 
 or-here : (a b : Bool) → b ≡ false → (a || b) ≡ a
 or-here true b e = refl
@@ -82,42 +84,69 @@ or-here false b e = e
 
 -- in a fence, only its own kind is left
 own : (m : Mark) (l : List ℕ) → threeOf (otherOf m) l ≡ false → isFence l ≡ threeOf m l
-own backtick l h = either l ∙ or-here (threeOf backtick l) (threeOf tilde l) h
-own tilde l h = either l ∙ rw h
-
-fence-opens : (l : List ℕ) → isFence l ≡ opens (opener l)
-unfolding isFence opener
-fence-opens l = go (threeOf backtick l) (threeOf tilde l) refl refl
-  where
-    go : (a b : Bool) → threeOf backtick l ≡ a → threeOf tilde l ≡ b → (threeOf backtick l || threeOf tilde l) ≡ opens (opener l)
-    go true b p q = rw p
-    go false true p q = rw (p, q)
-    go false false p q = rw (p, q)
-
-mark-opens : (m : Mark) → opens (kindOfMark m) ≡ true
-mark-opens backtick = refl
-mark-opens tilde = refl
+own backtick l h = either-kind l ∙ or-here (threeOf backtick l) (threeOf tilde l) h
+own tilde l h = either-kind l ∙ rw h
 
 code-opens : (o : Option CodeFence) → opens (asFence o) ≡ isOpen o
 code-opens none = refl
 code-opens (some f) = mark-opens (f .mark)
 
-pub same-flag : SameFlag
-unfolding scanDeparts otherKindCloses
-same-flag none st n at l h e d =
-    let q = fence-opens l ∙ (ap opens (opened l (threeOf backtick l) (threeOf tilde l) refl refl (or-right (otherKindCloses none l) _ d)) ∙ code-opens (codeOpener l)) in
-    flag st n at l (isFence l) refl ∙ (go (isFence l) ∙ q)
+same : (o : Option CodeFence) (st : State) (n at : ℕ) (l : List ℕ) → IsFence o → st .fence ≡ isOpen o → scanDeparts o l ≡ false → cond (isFence l) (not (st .fence)) (st .fence) ≡ isOpen (codeAfter o l)
+unfolding scanDeparts
+same none st n at l h e d = go (isFence l) ∙ (either-kind l ∙ (sym (seen-opens l) ∙ (ap opens (opened l (threeOf backtick l) (threeOf tilde l) refl refl (or-right (otherKindCloses none l) _ d)) ∙ code-opens (codeOpener l))))
   where
     go : (b : Bool) → cond b (not (st .fence)) (st .fence) ≡ b
     go true = rw e
     go false = e
-same-flag (some f) st n at l h e d =
-    flag st n at l (threeOf (f .mark) l) (own (f .mark) l (or-left (otherKindCloses (some f) l) _ d))
-    ∙ go (threeOf (f .mark) l) (closed f l (threeOf (f .mark) l) refl h (or-right (otherKindCloses (some f) l) _ d))
+same (some f) st n at l h e d = rw (own (f .mark) l (or-left (otherKindCloses (some f) l) _ d)) (go (threeOf (f .mark) l) (closed f l (threeOf (f .mark) l) refl h (or-right (otherKindCloses (some f) l) _ d)))
   where
     go : (b : Bool) → closesCode f l ≡ b → cond b (not (st .fence)) (st .fence) ≡ isOpen (codeAfter (some f) l)
     go true q = rw (e, q)
     go false q = rw (e, q)
+
+-- where a departure holds the scan sees a fence, and CommonMark none
+parts : (o : Option CodeFence) (st : State) (l : List ℕ) → st .fence ≡ isOpen o → isFence l ≡ true → IsMissed o l → cond (isFence l) (not (st .fence)) (st .fence) ≡ isOpen (codeAfter o l) → ⊥
+parts none st l e s m q = false≢true (sym (rw (s, e, m) at q))
+parts (some f) st l e s m q = false≢true (rw (s, e, m) at q)
+
+mark-fence : (m : Mark) (l : List ℕ) → threeOf m l ≡ true → isFence l ≡ true
+mark-fence backtick l h = either-kind l ∙ rw h
+mark-fence tilde l h = either-kind l ∙ rw (h, not-both l h)
+
+seen-fence : (o : Option CodeFence) (l : List ℕ) → isSeen o l ≡ true → isFence l ≡ true
+seen-fence none l h = either-kind l ∙ h
+seen-fence (some f) l h = mark-fence (f .mark) l h
+
+own-unseen : (m : Mark) (l : List ℕ) → threeOf (otherOf m) l ≡ true → threeOf m l ≡ false
+own-unseen backtick l h = not-both l h
+own-unseen tilde l h = one-kind l (threeOf tilde l) refl h
+
+other-apart : (o : Option CodeFence) (l : List ℕ) → IsFence o → otherKindCloses o l ≡ true → (isFence l ≡ true) × IsMissed o l
+other-apart none l h k = absurd (false≢true k)
+other-apart (some f) l h k = (mark-fence (otherOf (f .mark)) l k, not-closing f l (own-unseen (f .mark) l k) h)
+
+walk-apart : (o : Option CodeFence) (l : List ℕ) → IsFence o → departs o l ≡ true → (isFence l ≡ true) × IsMissed o l
+walk-apart o l h d = let a = apart o l h d in (seen-fence o l (a .seen), a .missed)
+
+scan-apart : (o : Option CodeFence) (l : List ℕ) → IsFence o → scanDeparts o l ≡ true → (isFence l ≡ true) × IsMissed o l
+unfolding scanDeparts
+scan-apart o l h =
+    other-apart o l h
+    or walk-apart o l h
+
+-- a CR at the end of our line is no part of CommonMark's
+fence-cr : (l : List ℕ) → isFence (l ++ (0x0D ∷ [])) ≡ isFence l
+unfolding isFence
+fence-cr l = rw (three-cr backtick l, three-cr tilde l)
+
+flag-ended : (st : State) (n at : ℕ) (l : List ℕ) → after st n at (kindAt st at l) .fence ≡ cond (isFence (ended l)) (not (st .fence)) (st .fence)
+flag-ended st n at l = flag st n at l (isFence (ended l)) (by-ended (λ l m. isFence l ≡ isFence m) (λ l. refl) fence-cr l)
+
+pub same-flag : SameFlag
+same-flag o st n at l h e d = flag-ended st n at l ∙ same o st n at (ended l) h e d
+
+pub other-flag : OtherFlag
+other-flag o st n at l h e d q = let a = scan-apart o (ended l) h d in parts o st (ended l) e (a .0) (a .1) (sym (flag-ended st n at l) ∙ q)
 
 -- an opener has three bytes or more, so what is open stays a fence
 opener-long : (m : Mark) (l : List ℕ) → opensWith m l ≡ true → 3 ≤ run m (unindented l)
@@ -139,13 +168,13 @@ stays-fence (some f) l h = go (closesCode f l)
     go false = h
 
 pub each-parts : EachParts
-unfolding indentedByFour otherSpaceBefore backtickInInfo shorterCloser textAfterCloser stepAfter outsideAfter closes opener codeOpener opensWith closesCode run indent first any lead trimStart isSpace startsWith commentAfter
-each-parts = ((refl, (refl, refl)), ((refl, (refl, refl)), ((refl, (refl, refl)), ((refl, (refl, refl)), ((refl, (refl, refl)), ((refl, (refl, refl)), (refl, (refl, refl))))))))
+unfolding ended stepAfter outsideAfter closes opener codeOpener opensWith closesCode run indent first any lead trimStart isSpace startsWith commentAfter
+each-parts = ((refl, (refl, refl)), ((refl, (refl, refl)), ((refl, (refl, refl)), ((refl, (refl, refl)), ((refl, (refl, refl)), ((refl, (refl, refl)), ((refl, (refl, refl)), (refl, (refl, refl)))))))))
 
 pub other-kind-parts : OtherKindParts
-unfolding otherKindCloses after kindAt kindOf isFence closesCode run indent first lead trimStart isSpace startsWith
+unfolding after kindAt kindOf isFence closesCode run indent first lead trimStart isSpace startsWith
 other-kind-parts = (refl, (refl, refl))
 
 pub none-holds : NoneHolds
-unfolding scanDeparts departs indentedByFour otherSpaceBefore backtickInInfo shorterCloser textAfterCloser otherKindCloses run indent first any lead trimStart isSpace startsWith
-none-holds = (refl, (refl, (refl, (refl, (refl, (refl, (refl, refl)))))))
+unfolding ended scanDeparts departs run indent first any lead trimStart isSpace startsWith
+none-holds = (refl, (refl, (refl, (refl, (refl, (refl, (refl, (refl, (refl, (refl, refl))))))))))

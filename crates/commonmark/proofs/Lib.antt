@@ -1,4 +1,5 @@
 pub mod BoolLaws
+pub mod LineLaws
 pub mod StripLaws
 pub mod HeadingTheorem
 pub mod FenceLaws

@@ -1,4 +1,4 @@
--- Where our fences and CommonMark's part: the named departures of docs/DIFFERENCES.md, each a test of the open fence and the line, and the theorems that there are no others.
+-- Where our fences and CommonMark's part: the named departures of docs/DIFFERENCES.md, each a test of the open fence and the line, and the theorems that there are no others and that each is one.
 use Prim.Native.Nat.{ℕ, _≤_}
 use mathlib.Core.Bool.{Bool, true, false, cond, not, _&&_, _||_}
 use mathlib.Core.List.{List, [], _∷_, _++_}
@@ -14,7 +14,7 @@ use Rattle.scan.specs.Scan.{after, kindAt}
 use Rattle.scan.specs.declared.state.State.{State}
 use Rattle.scan.specs.declared.state.OpenRegion.the-variants.{Closed}
 use Rattle.heading.specs.Walk.{stepAfter}
-use Rattle.commonmark.specs.Strip.{isShown, indent}
+use Rattle.commonmark.specs.Strip.{ended, isShown, indent}
 use Rattle.commonmark.specs.Fenced.{Mark, backtick, tilde, CodeFence, byteOf, run, info, codeAfter}
 
 -- a line whose trimmed start has three of a byte: what we look for
@@ -27,25 +27,25 @@ isSeen none l = threeOf backtick l || threeOf tilde l
 isSeen (some f) l = threeOf (f .mark) l
 
 -- indented by four spaces or more: we open or close, CommonMark does not
-unfoldable pub indentedByFour : Option CodeFence → List ℕ → Bool
+abbrev pub indentedByFour : Option CodeFence → List ℕ → Bool
 indentedByFour o l = isSeen o l && leb 4 (indent l)
 
 -- a tab or another space byte before it: the same
-unfoldable pub otherSpaceBefore : Option CodeFence → List ℕ → Bool
+abbrev pub otherSpaceBefore : Option CodeFence → List ℕ → Bool
 otherSpaceBefore o l = isSeen o l && not (eqb (lead l) (indent l))
 
 -- a backtick in the info string: we open, CommonMark does not
-unfoldable pub backtickInInfo : Option CodeFence → List ℕ → Bool
+abbrev pub backtickInInfo : Option CodeFence → List ℕ → Bool
 backtickInInfo none l = threeOf backtick l && any (is 0x60) (info backtick (trimStart l))
 backtickInInfo (some f) l = false
 
 -- a closer with fewer bytes than the opener: we close, CommonMark does not
-unfoldable pub shorterCloser : Option CodeFence → List ℕ → Bool
+abbrev pub shorterCloser : Option CodeFence → List ℕ → Bool
 shorterCloser none l = false
 shorterCloser (some f) l = threeOf (f .mark) l && ltb (run (f .mark) (trimStart l)) (f .length)
 
 -- text after a closer: the same
-unfoldable pub textAfterCloser : Option CodeFence → List ℕ → Bool
+abbrev pub textAfterCloser : Option CodeFence → List ℕ → Bool
 textAfterCloser none l = false
 textAfterCloser (some f) l = threeOf (f .mark) l && any isShown (info (f .mark) (trimStart l))
 
@@ -54,13 +54,18 @@ abbrev pub otherOf : Mark → Mark
 otherOf backtick = tilde
 otherOf tilde = backtick
 
-unfoldable pub otherKindCloses : Option CodeFence → List ℕ → Bool
+abbrev pub otherKindCloses : Option CodeFence → List ℕ → Bool
 otherKindCloses none l = false
 otherKindCloses (some f) l = threeOf (otherOf (f .mark)) l
 
 -- the list for the heading walk, and that for the scan
 unfoldable pub departs : Option CodeFence → List ℕ → Bool
-departs o l = indentedByFour o l || (otherSpaceBefore o l || (backtickInInfo o l || (shorterCloser o l || textAfterCloser o l)))
+departs o l =
+    indentedByFour o l
+    || otherSpaceBefore o l
+    || backtickInInfo o l
+    || shorterCloser o l
+    || textAfterCloser o l
 
 unfoldable pub scanDeparts : Option CodeFence → List ℕ → Bool
 scanDeparts o l = otherKindCloses o l || departs o l
@@ -83,12 +88,25 @@ abbrev pub IsFence : Option CodeFence → Type 0
 IsFence none = Unit {0}
 IsFence (some f) = 3 ≤ f .length
 
--- where none of them holds, the fence that is open behind a line is CommonMark's, for every line
+-- for every line of ours: where none of them holds of CommonMark's line, the fence that is open behind it is CommonMark's
 abbrev pub SameFence : Type 0
-SameFence = (o : Option CodeFence) (comment : Bool) (l : List ℕ) → IsFence o → departs o l ≡ false → stepAfter (asFence o) comment l .fence ≡ asFence (codeAfter o l)
+SameFence =
+    (o : Option CodeFence) (comment : Bool) (l : List ℕ) → IsFence o → departs o (ended l) ≡ false → stepAfter (asFence o) comment l .fence ≡ asFence (codeAfter o (ended l))
 
 abbrev pub SameFlag : Type 0
-SameFlag = (o : Option CodeFence) (st : State) (n at : ℕ) (l : List ℕ) → IsFence o → st .fence ≡ isOpen o → scanDeparts o l ≡ false → after st n at (kindAt st at l) .fence ≡ isOpen (codeAfter o l)
+SameFlag =
+    (o : Option CodeFence) (st : State) (n at : ℕ) (l : List ℕ) → IsFence o → st .fence ≡ isOpen o → scanDeparts o (ended l) ≡ false
+    → after st n at (kindAt st at l) .fence ≡ isOpen (codeAfter o (ended l))
+
+-- and where one of them holds, it is not
+abbrev pub OtherFence : Type 0
+OtherFence =
+    (o : Option CodeFence) (comment : Bool) (l : List ℕ) → IsFence o → departs o (ended l) ≡ true → stepAfter (asFence o) comment l .fence ≡ asFence (codeAfter o (ended l)) → ⊥
+
+abbrev pub OtherFlag : Type 0
+OtherFlag =
+    (o : Option CodeFence) (st : State) (n at : ℕ) (l : List ℕ) → IsFence o → st .fence ≡ isOpen o → scanDeparts o (ended l) ≡ true
+    → after st n at (kindAt st at l) .fence ≡ isOpen (codeAfter o (ended l)) → ⊥
 
 -- what is open behind a line stays one
 abbrev pub StaysFence : Type 0
@@ -96,7 +114,7 @@ StaysFence = (o : Option CodeFence) (l : List ℕ) → IsFence o → IsFence (co
 
 -- a line on which a departure holds, and what is open behind it for us and for CommonMark
 abbrev pub Parts : (Option CodeFence → List ℕ → Bool) → Option CodeFence → List ℕ → Fence → Fence → Type 0
-Parts test o l ours theirs = (test o l ≡ true) × ((stepAfter (asFence o) false l .fence ≡ ours) × (asFence (codeAfter o l) ≡ theirs))
+Parts test o l ours theirs = (test o (ended l) ≡ true) × ((stepAfter (asFence o) false l .fence ≡ ours) × (asFence (codeAfter o (ended l)) ≡ theirs))
 
 abbrev ticks : ℕ → Option CodeFence
 ticks n = some (record { mark = backtick; length = n })
@@ -110,7 +128,8 @@ EachParts =
     × (Parts otherSpaceBefore (ticks 3) (0x0B ∷ bytes "```") Outside Ticks
     × (Parts backtickInInfo none (bytes "```a`") Ticks Outside
     × (Parts shorterCloser (ticks 4) (bytes "```") Outside Ticks
-    × Parts textAfterCloser (ticks 3) (bytes "```a") Outside Ticks)))))
+    × (Parts textAfterCloser (ticks 3) (bytes "```a") Outside Ticks
+    × Parts textAfterCloser (ticks 3) (bytes "```" ++ (0x0B ∷ [])) Outside Ticks))))))
 
 -- and in the scan a closer of the other kind
 abbrev pub OtherKindParts : Type 0
@@ -129,4 +148,7 @@ NoneHolds =
     × ((scanDeparts (ticks 3) (bytes "```") ≡ false)
     × ((scanDeparts (ticks 3) (bytes "  `````  ") ≡ false)
     × ((scanDeparts (ticks 3) (bytes "    a ```") ≡ false)
-    × (departs (ticks 3) (bytes "~~~ a") ≡ false)))))))
+    × ((scanDeparts none (0x09 ∷ bytes "a") ≡ false)
+    × ((scanDeparts (ticks 3) (bytes "```" ++ (0x09 ∷ [])) ≡ false)
+    × ((scanDeparts (ticks 3) (ended (bytes "```" ++ (0x0D ∷ []))) ≡ false)
+    × (departs (ticks 3) (bytes "~~~ a") ≡ false))))))))))

@@ -4,11 +4,12 @@ use mathlib.Core.Bool.{Bool, true, false, cond, not, _&&_, _||_}
 use mathlib.Core.List.{List, [], _∷_}
 use mathlib.Core.Path.{_≡_}
 use lib.Dec.{eqb, leb}
-use Rattle.text.specs.Bytes.{is, any}
 use Rattle.text.specs.Ascii.{isDigit, lower}
 use Rattle.text.specs.Pattern.{bytes}
 use Rattle.text.specs.Space.{isSpace}
-use Rattle.anchor.specs.Anchor.{plain, slug}
+use Rattle.anchor.specs.Anchor.{shows, markupAfter, plain, slug}
+use Rattle.anchor.specs.declared.Markup.{Markup}
+use Rattle.anchor.specs.declared.Markup.the-variants.{Written, Bracket, Behind, Target}
 use Rattle.commonmark.specs.Headings.{isSpaced}
 
 -- "punctuation characters other than - and _ are removed": letters and digits, `-` and `_` are left; control bytes, of which the manual says nothing, go too, as in the tool
@@ -20,29 +21,50 @@ unfoldable pub identifier : List ℕ → List ℕ
 identifier [] = []
 identifier (x ∷ s) = cond (isLeft x) (lower x ∷ identifier s) (cond (isSpace x) (0x2D ∷ identifier s) (identifier s))
 
--- an underscore: the manual keeps it, we take it for a mark
-unfoldable pub underscore : List ℕ → Bool
-underscore t = any (is 0x5F) t
+-- A departure is a test of a byte and of where it stands: outside brackets, in them, directly behind them, or in parentheses directly behind them.
+unfoldable pub anyFrom : (Markup → ℕ → Bool) → Markup → List ℕ → Bool
+anyFrom f m [] = false
+anyFrom f m (x ∷ s) = f m x || anyFrom f (markupAfter m x) s
 
--- a bracket: we take it for a link's text, and parentheses directly behind for its target
-unfoldable pub bracket : List ℕ → Bool
-bracket t = any (is 0x5B) t
+abbrev pub somewhere : (Markup → ℕ → Bool) → List ℕ → Bool
+somewhere f t = anyFrom f Written t
 
--- a space byte at an end, once marks are gone: we trim it
-unfoldable pub markAtEnd : List ℕ → Bool
-markAtEnd t = isSpaced (plain t)
+-- an underscore outside brackets: the manual keeps it, we drop it as a mark
+abbrev pub underscore : Markup → ℕ → Bool
+underscore m x = eqb x 0x5F && not (shows m x)
+
+-- a byte in parentheses directly behind brackets which the manual, on a plain text, does not remove: we take them for a link's target
+abbrev pub target : Markup → ℕ → Bool
+target Written x = false
+target Bracket x = false
+target Behind x = false
+target Target x = isLeft x || isSpace x
 
 -- a space byte other than 20 hex: we leave it out
-unfoldable pub otherSpace : List ℕ → Bool
-otherSpace t = any (λ x. isSpace x && not (eqb x 0x20)) t
+abbrev pub otherSpace : Markup → ℕ → Bool
+otherSpace m x = isSpace x && not (eqb x 0x20)
+
+-- and one is a test of the whole text: a space byte at an end, once marks are gone: we trim it
+abbrev pub markAtEnd : List ℕ → Bool
+markAtEnd t = isSpaced (plain t)
 
 -- the list
+abbrev pub departsAt : Markup → ℕ → Bool
+departsAt m x =
+    target m x
+    || underscore m x
+    || otherSpace m x
+
 unfoldable pub departs : List ℕ → Bool
-departs t = underscore t || (bracket t || (markAtEnd t || otherSpace t))
+departs t = markAtEnd t || somewhere departsAt t
 
 -- where none of them holds, our anchor is the manual's identifier, for every text of which nothing is read as markup
 abbrev pub SameIdentifier : Type 0
 SameIdentifier = (t : List ℕ) → departs t ≡ false → slug t ≡ identifier t
+
+-- and where one of them holds, it is not
+abbrev pub OtherIdentifier : Type 0
+OtherIdentifier = (t : List ℕ) → departs t ≡ true → slug t ≡ identifier t → ⊥
 
 -- a text on which a departure holds, our anchor and the manual's identifier
 abbrev pub Parts : (List ℕ → Bool) → List ℕ → List ℕ → List ℕ → Type 0
@@ -51,14 +73,17 @@ Parts test t ours theirs = (test t ≡ true) × ((slug t ≡ ours) × (identifie
 -- each of them parts the two
 abbrev pub EachParts : Type 0
 EachParts =
-    Parts underscore (bytes "q_1") (bytes "q1") (bytes "q_1")
-    × (Parts bracket (bytes "a [b](c") (bytes "a-b") (bytes "a-bc")
+    Parts (somewhere underscore) (bytes "q_1") (bytes "q1") (bytes "q_1")
+    × (Parts (somewhere target) (bytes "a [b](c") (bytes "a-b") (bytes "a-bc")
     × (Parts markAtEnd (bytes "* a") (bytes "a") (bytes "-a")
-    × Parts otherSpace (0x61 ∷ 0x09 ∷ bytes "b") (bytes "ab") (bytes "a-b")))
+    × (Parts (somewhere otherSpace) (0x61 ∷ 0x0B ∷ 0x0C ∷ 0x0D ∷ bytes "b") (bytes "ab") (bytes "a---b")
+    × Parts (somewhere otherSpace) (0x61 ∷ 0x09 ∷ bytes "b") (bytes "ab") (bytes "a-b"))))
 
 -- texts on which none of them holds
 abbrev pub NoneHolds : Type 0
 NoneHolds =
     (departs (bytes "Rating & Datum") ≡ false)
     × ((departs (bytes "*Stage* at 6.20 m") ≡ false)
-    × (departs [] ≡ false))
+    × ((departs (bytes "a[0] [b_c] d (e)") ≡ false)
+    × ((departs (bytes "[a]() b") ≡ false)
+    × (departs [] ≡ false))))
