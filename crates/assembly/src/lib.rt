@@ -48,7 +48,7 @@ fn emit_all(
     joining::answer_of(put::put_bytes(b"\n", Room { at, limit }, work), file)
 }
 
-// Where the table of marks ends: it has as many bytes as the limit, or as the contents if that is more and there is room.
+// Where the table of marks ends: it has as many bytes as the limit or, where the contents are more, as many as these, as far as there is room.
 fn table_end(table: usize, limit: usize, contents: usize, work: usize) -> usize
     requires { ⌜ (1 ≤ limit) × (table + limit ≤ work) ⌝ }
     ensures { λ r. ⌜ (table < r) × (r ≤ work) ⌝ }

@@ -20,14 +20,6 @@ and-last true true = refl
 and-last true false = refl
 and-last false b = refl
 
-pub and-left : (a b : Bool) → (a && b) ≡ true → a ≡ true
-and-left true b h = refl
-and-left false b h = h
-
-pub and-right : (a b : Bool) → (a && b) ≡ true → b ≡ true
-and-right true b h = h
-and-right false b h = absurd (false≢true h)
-
 pub and-true : (a : Bool) → (a && true) ≡ false → a ≡ false
 and-true true h = h
 and-true false h = refl

@@ -1,13 +1,13 @@
 -- What our search for three bytes and CommonMark's run of them have to do with each other. Assumes nothing.
-use Prim.Native.Nat.{ℕ, zero, suc, _≤_, _<_}
+use Prim.Native.Nat.{ℕ, suc}
 use mathlib.Core.Path.{_≡_, refl, sym, _∙_, ap}
-use mathlib.Core.Bool.{Bool, true, false, cond, not, _&&_, _||_, false≢true}
+use mathlib.Core.Bool.{Bool, true, false, cond, not, _&&_, false≢true}
 use mathlib.Core.List.{List, [], _∷_}
 use native.Mathlib.Omega.{arith}
-use borrow.Author.Tests.{eqb-true, le-leb, lt-leb, leb-false}
+use borrow.Author.Tests.{eqb-true, le-leb, leb-false}
 use lib.ListN.{drop}
 use lib.Dec.{eqb, leb}
-use Rattle.text.specs.Bytes.{is, first}
+use Rattle.text.specs.Bytes.{first}
 use Rattle.text.specs.Pattern.{startsWith}
 use Rattle.text.specs.Space.{isSpace, isOther, lead, trimStart}
 use Rattle.commonmark.specs.Strip.{indent}
@@ -50,10 +50,6 @@ mark-other : (m : Mark) → isOther (byteOf m) ≡ true
 unfolding isSpace
 mark-other backtick = refl
 mark-other tilde = refl
-
-mark-space : (m : Mark) → eqb (byteOf m) 0x20 ≡ false
-mark-space backtick = refl
-mark-space tilde = refl
 
 -- a text that begins with three of a byte begins with one
 starts-cons : (m : Mark) (t : List ℕ) → starts m t ≡ true → HeadIs m t

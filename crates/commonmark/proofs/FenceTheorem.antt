@@ -1,22 +1,25 @@
 -- The fence that is open behind a line is CommonMark's, in the heading walk, where no named departure holds, and only there. Assumes nothing.
-use Prim.Native.Nat.{ℕ, suc, _≤_, _<_}
+use Prim.Native.Nat.{ℕ, _≤_, _<_}
 use mathlib.Core.Path.{_≡_, refl, sym, _∙_, ap}
-use mathlib.Core.Bool.{Bool, true, false, cond, not, _&&_, _||_, false≢true}
+use mathlib.Core.Bool.{Bool, true, false, cond, not, false≢true}
 use mathlib.Core.List.{List, [], _∷_, _++_}
 use mathlib.Core.Option.{Option, none, some}
 use native.Mathlib.Omega.{arith}
 use borrow.Author.Tests.{not-true, not-false, eqb-true, eqb-false, le-leb, lt-leb, leb-true, leb-false, ltb-true, ltb-false}
-use lib.Dec.{eqb, leb, ltb}
-use Rattle.text.specs.Bytes.{is, any}
+use lib.Dec.{eqb, leb}
+use Rattle.text.specs.Bytes.{any}
 use Rattle.text.specs.Space.{lead, trimStart}
-use Rattle.fence.specs.Fences.{opener, opens}
+use Rattle.text.proofs.PatternLaws.{and-left, and-right}
+use Rattle.fence.specs.Fences.{opener, opens, isFence}
 use Rattle.fence.specs.declared.Fence.{Fence}
 use Rattle.fence.specs.declared.Fence.the-variants.{Outside, Ticks, Tildes}
-use Rattle.heading.specs.Walk.{closes, sameFence, stepAfter, outsideAfter}
+use Rattle.fence.proofs.FenceLaws.{fence-opener}
+use Rattle.heading.specs.Walk.{closes, stepAfter, outsideAfter}
+use Rattle.heading.proofs.WalkLaws.{closes-ticks, closes-tildes}
 use Rattle.commonmark.specs.Strip.{ended, isShown, indent}
-use Rattle.commonmark.specs.Fenced.{Mark, backtick, tilde, CodeFence, byteOf, unindented, run, info, isInfo, opensWith, codeOpener, closesCode, codeAfter}
+use Rattle.commonmark.specs.Fenced.{Mark, backtick, tilde, CodeFence, unindented, run, info, isInfo, opensWith, codeOpener, closesCode, codeAfter}
 use Rattle.commonmark.specs.Fences.{threeOf, isSeen, indentedByFour, otherSpaceBefore, backtickInInfo, shorterCloser, textAfterCloser, departs, kindOfMark, asFence, IsFence, SameFence, OtherFence}
-use Rattle.commonmark.proofs.BoolLaws.{of-list, second, and-false, and-last, and-left, and-right, _or_}
+use Rattle.commonmark.proofs.BoolLaws.{of-list, second, and-false, and-last, _or_}
 use Rattle.commonmark.proofs.LineLaws.{by-ended, three-cr}
 use Rattle.commonmark.proofs.FenceLaws.{trimmed, unseen, seen, not-both, stray}
 
@@ -74,19 +77,8 @@ opened l false false p q d = rw (p, q, shut backtick l p, shut tilde l q)
 
 -- a closer
 same-kind : (m : Mark) (l : List ℕ) (b : Bool) → threeOf m l ≡ b → closes (kindOfMark m) l ≡ b
-unfolding closes opener
-same-kind backtick l true p = rw p
-same-kind backtick l false p = go (threeOf tilde l) refl
-  where
-    go : (b : Bool) → threeOf tilde l ≡ b → sameFence Ticks (opener l) ≡ false
-    go true q = rw (p, q)
-    go false q = rw (p, q)
-same-kind tilde l true p = rw (not-both l p, p)
-same-kind tilde l false p = go (threeOf backtick l) refl
-  where
-    go : (b : Bool) → threeOf backtick l ≡ b → sameFence Tildes (opener l) ≡ false
-    go true q = rw q
-    go false q = rw (q, p)
+same-kind backtick l b p = closes-ticks l ∙ p
+same-kind tilde l b p = closes-tildes l ∙ p
 
 unclosing : (f : CodeFence) (l : List ℕ) → run (f .mark) (unindented l) < f .length → closesCode f l ≡ false
 unfolding closesCode
@@ -207,13 +199,8 @@ same (some f) comment l h d = after-open (f .mark) comment l ∙ go (threeOf (f 
     go false p q = rw (p, q)
 
 pub seen-opens : (l : List ℕ) → opens (opener l) ≡ isSeen none l
-unfolding opener
-seen-opens l = go (threeOf backtick l) (threeOf tilde l)
-  where
-    go : (a b : Bool) → opens (cond a Ticks (cond b Tildes Outside)) ≡ (a || b)
-    go true b = refl
-    go false true = refl
-    go false false = refl
+unfolding isFence
+seen-opens l = fence-opener l
 
 pub mark-opens : (m : Mark) → opens (kindOfMark m) ≡ true
 mark-opens backtick = refl

@@ -1,4 +1,4 @@
--- The scan is in a fence behind a line exactly where CommonMark is where no named departure holds, and only there. Assumes nothing.
+-- Where no named departure holds, and only there, the scan is in a fence behind a line just where CommonMark is. Assumes nothing.
 use Prim.Native.Nat.{ℕ, _≤_}
 use mathlib.Core.Path.{_≡_, refl, sym, _∙_, ap}
 use mathlib.Core.Bool.{Bool, true, false, cond, not, _&&_, _||_, false≢true}
@@ -12,6 +12,7 @@ use Rattle.text.specs.Bytes.{any, first}
 use Rattle.text.specs.declared.pattern.Found.{Found}
 use Rattle.text.specs.declared.pattern.Found.the-variants.{At, Nothing}
 use Rattle.text.proofs.BytesLaws.{or-left, or-right}
+use Rattle.text.proofs.PatternLaws.{and-left, and-right}
 use Rattle.fence.specs.Fences.{isFence, opener, opens}
 use Rattle.marker.specs.Marker.{OPEN, CLOSE, OPEN-FRAGMENT, fragmentOf, fragmentKind, markedKind, kindOf}
 use Rattle.marker.specs.declared.line.Fragment.{Fragment}
@@ -23,11 +24,11 @@ use Rattle.scan.specs.Scan.{after, kindAt, isOpen as isOpenRegion}
 use Rattle.scan.specs.declared.state.State.{State}
 use Rattle.commonmark.specs.Strip.{ended, indent}
 use Rattle.commonmark.specs.Fenced.{Mark, backtick, tilde, CodeFence, unindented, run, opensWith, codeOpener, closesCode, codeAfter}
-use Rattle.commonmark.specs.Fences.{threeOf, isSeen, otherOf, indentedByFour, otherSpaceBefore, backtickInInfo, shorterCloser, textAfterCloser, otherKindCloses, departs, scanDeparts, kindOfMark, asFence, isOpen, IsFence, SameFlag, OtherFlag, StaysFence, EachParts, OtherKindParts, NoneHolds}
-use Rattle.commonmark.proofs.BoolLaws.{and-left, and-right, _or_}
+use Rattle.commonmark.specs.Fences.{threeOf, isSeen, otherOf, otherKindCloses, departs, scanDeparts, asFence, isOpen, IsFence, SameFlag, OtherFlag, StaysFence, EachParts, OtherKindParts, NoneHolds}
+use Rattle.commonmark.proofs.BoolLaws.{_or_}
 use Rattle.commonmark.proofs.LineLaws.{by-ended, three-cr}
 use Rattle.commonmark.proofs.FenceLaws.{not-both}
-use Rattle.commonmark.proofs.FenceTheorem.{opened, closed, not-closing, IsMissed, Apart, apart, one-kind, seen-opens, mark-opens}
+use Rattle.commonmark.proofs.FenceTheorem.{opened, closed, not-closing, IsMissed, apart, one-kind, seen-opens, mark-opens}
 
 -- a kind that is no fence
 abbrev IsOther : Kind → Type 0

@@ -1,23 +1,24 @@
 -- Our heading is CommonMark's where no named departure holds, and only there. Assumes nothing.
-use Prim.Native.Nat.{ℕ, zero, suc, _+_, _-_, _≤_}
+use Prim.Native.Nat.{ℕ, suc, _+_, _-_}
 use mathlib.Core.Path.{_≡_, refl, sym, _∙_, ap}
-use mathlib.Core.Bool.{Bool, true, false, cond, not, _&&_, _||_, false≢true}
+use mathlib.Core.Bool.{Bool, true, false, cond, not, false≢true}
 use mathlib.Core.List.{List, [], _∷_, _++_}
 use mathlib.Core.Option.{Option, none, some}
 use native.Mathlib.Omega.{arith}
-use borrow.Author.Tests.{eqb-true, leb-true, leb-false}
-use lib.ListN.{length, take, drop}
+use borrow.Author.Tests.{eqb-true, leb-false}
+use lib.ListN.{length, drop}
 use lib.Seq.{drop-drop}
 use lib.Dec.{eqb, leb}
 use Rattle.text.specs.Bytes.{any, first, afterLast, part}
 use Rattle.text.specs.Pattern.{bytes, startsWith}
 use Rattle.text.specs.Space.{isSpace, lead, kept, trim, trimStart, trimEnd}
+use Rattle.text.proofs.PatternLaws.{and-left, and-right}
 use Rattle.heading.specs.Walk.{hashes, headingOf, textStart, textEnd}
-use Rattle.heading.specs.declared.walk.LineKind.the-variants.{Quoted, Heading, Other}
+use Rattle.heading.specs.declared.walk.LineKind.the-variants.{Heading, Other}
 use Rattle.commonmark.specs.Strip.{ended, strip, stripStart, stripEnd, indent}
-use Rattle.commonmark.specs.Atx.{Atx, unclosed, isClosed, runStart, atx, atxFrom, asAtx}
+use Rattle.commonmark.specs.Atx.{Atx, heading, unclosed, isClosed, runStart, atx, atxFrom, asAtx}
 use Rattle.commonmark.specs.Headings.{isHeading, isOpened, isOurs, behind, isSpaced, indented, tabAfterHashes, bareHashes, closingRun, otherSpaceBytes, departs, SameHeading, OtherHeading, EachParts, NoneHolds}
-use Rattle.commonmark.proofs.BoolLaws.{of-list, second, and-left, and-right, _or_}
+use Rattle.commonmark.proofs.BoolLaws.{of-list, second, _or_}
 use Rattle.commonmark.proofs.LineLaws.{by-ended, hashes-cr, behind-cr, starts-cr, trim-cr}
 use Rattle.commonmark.proofs.StripLaws.{trim-strip, spaced-differs, closed-differs}
 
@@ -29,20 +30,17 @@ text-trimmed n l =
     let k : textEnd n l - textStart n l ≡ kept (drop (textStart n l) l) = omega arith in
     rw (k, d)
 
-abbrev atxOf : ℕ → List ℕ → Option Atx
-atxOf n text = some (record { level = n; text = text })
-
 abbrev textOf : Option Atx → List ℕ
 textOf none = []
 textOf (some h) = h .text
 
 -- ours, by the test of a line
-ours : (l : List ℕ) → asAtx l (headingOf l) ≡ cond (isOurs l) (atxOf (hashes l) (trim (behind l))) none
+ours : (l : List ℕ) → asAtx l (headingOf l) ≡ cond (isOurs l) (heading (hashes l) (trim (behind l))) none
 unfolding headingOf
 ours l = go (isOurs l)
   where
-    go : (b : Bool) → asAtx l (cond b (Heading (hashes l) (textStart (hashes l) l) (textEnd (hashes l) l)) Other) ≡ cond b (atxOf (hashes l) (trim (behind l))) none
-    go true = ap (atxOf (hashes l)) (text-trimmed (hashes l) l)
+    go : (b : Bool) → asAtx l (cond b (Heading (hashes l) (textStart (hashes l) l) (textEnd (hashes l) l)) Other) ≡ cond b (heading (hashes l) (trim (behind l))) none
+    go true = ap (heading (hashes l)) (text-trimmed (hashes l) l)
     go false = refl
 
 -- theirs: behind a space no hashes are at column 0, and elsewhere the line has no indentation
@@ -68,14 +66,14 @@ unspaced l o = go (leb 1 (indent l)) refl
 
 -- a heading of ours is one of CommonMark's, of the same level
 module _ (l : List ℕ) (k : isOurs l ≡ true) where
-  our-text : asAtx l (headingOf l) ≡ atxOf (hashes l) (trim (behind l))
+  our-text : asAtx l (headingOf l) ≡ heading (hashes l) (trim (behind l))
   our-text = ours l ∙ rw k
 
-  their-text : atx l ≡ atxOf (hashes l) (unclosed (strip (behind l)))
+  their-text : atx l ≡ heading (hashes l) (unclosed (strip (behind l)))
   unfolding startsWith
   their-text = theirs l (unspaced l (and-left (isOpened l) _ k)) ∙ go (behind l) refl (and-right (isOpened l) _ k)
     where
-      go : (r : List ℕ) → behind l ≡ r → startsWith (bytes " ") r ≡ true → atxFrom l ≡ atxOf (hashes l) (unclosed (strip (behind l)))
+      go : (r : List ℕ) → behind l ≡ r → startsWith (bytes " ") r ≡ true → atxFrom l ≡ heading (hashes l) (unclosed (strip (behind l)))
       go [] e h = absurd (false≢true h)
       go (x ∷ r) e h = rw (and-left (isOpened l) _ k, e, and-left (eqb x 0x20) true h)
 
@@ -83,7 +81,7 @@ module _ (l : List ℕ) (k : isOurs l ≡ true) where
   same-text e = ap textOf (sym our-text ∙ (e ∙ their-text))
 
   text-same : trim (behind l) ≡ unclosed (strip (behind l)) → asAtx l (headingOf l) ≡ atx l
-  text-same e = our-text ∙ (ap (atxOf (hashes l)) e ∙ sym their-text)
+  text-same e = our-text ∙ (ap (heading (hashes l)) e ∙ sym their-text)
 
 -- one is a heading, the other none
 none-is : (o : Option Atx) → isHeading o ≡ false → o ≡ none

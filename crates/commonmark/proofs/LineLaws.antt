@@ -1,11 +1,11 @@
 -- A CR at the end of a line changes neither our heading nor our fence. Assumes nothing.
-use Prim.Native.Nat.{ℕ, zero, suc, _≤_}
-use mathlib.Core.Path.{_≡_, refl, sym, _∙_, ap}
-use mathlib.Core.Bool.{Bool, true, false, cond, not, _&&_, _||_}
+use Prim.Native.Nat.{ℕ, suc}
+use mathlib.Core.Path.{_≡_, refl}
+use mathlib.Core.Bool.{Bool, true, false, cond, not}
 use mathlib.Core.List.{List, [], _∷_, _++_}
 use borrow.Author.Tests.{eqb-true}
-use lib.ListN.{length, take, drop}
-use lib.Seq.{take-append-le, drop-append-le, take-nil}
+use lib.ListN.{drop}
+use lib.Seq.{take-append-le, drop-append-le}
 use lib.Dec.{eqb}
 use Rattle.text.specs.Bytes.{is, any, first, afterLast}
 use Rattle.text.specs.Pattern.{bytes, startsWith}

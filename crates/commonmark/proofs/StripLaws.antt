@@ -1,20 +1,21 @@
 -- Trimming and stripping are the same where no other space byte stands at an end and there only, and a closing run is no part of the text. Assumes nothing.
 use Prim.Native.Nat.{ℕ, zero, suc, _-_, _≤_, _<_}
 use mathlib.Core.Path.{_≡_, refl, sym, _∙_, ap}
-use mathlib.Core.Bool.{Bool, true, false, cond, not, _&&_, _||_, false≢true}
+use mathlib.Core.Bool.{Bool, true, false, cond, not, _||_, false≢true}
 use mathlib.Core.List.{List, [], _∷_}
 use native.Mathlib.Omega.{arith}
 use borrow.Author.Tests.{not-true, not-false, eqb-true, ltb-true}
 use lib.ListN.{length, take, drop, getD, length-take}
 use lib.Seq.{length-take-le, getD-take, take-length}
-use lib.Dec.{eqb, ltb}
+use lib.Dec.{eqb}
 use Rattle.text.specs.Bytes.{is, first, afterLast}
 use Rattle.text.specs.Space.{isSpace, isOther, lead, kept, trim, trimStart, trimEnd}
 use Rattle.text.proofs.BytesLaws.{or-left, or-right, after-le, after-hit}
-use Rattle.commonmark.specs.Strip.{isBlankByte, isShown, strip, stripStart, stripEnd}
-use Rattle.commonmark.specs.Atx.{runStart, closesAt, isClosed, unclosed}
+use Rattle.text.proofs.PatternLaws.{and-left}
+use Rattle.commonmark.specs.Strip.{isShown, strip, stripStart, stripEnd}
+use Rattle.commonmark.specs.Atx.{runStart, isClosed, unclosed}
 use Rattle.commonmark.specs.Headings.{isSpaced}
-use Rattle.commonmark.proofs.BoolLaws.{and-left, or-first}
+use Rattle.commonmark.proofs.BoolLaws.{or-first}
 
 -- the first byte of a text, and the byte before a place, pass a test
 abbrev HeadIs : (ℕ → Bool) → List ℕ → Type 0

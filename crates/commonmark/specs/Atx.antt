@@ -1,11 +1,11 @@
 -- CommonMark 0.31.2, 4.2: ATX headings, of a single line.
 use Prim.Native.Nat.{ℕ, zero, suc}
-use mathlib.Core.Bool.{Bool, true, false, cond, not, _&&_}
+use mathlib.Core.Bool.{Bool, true, cond, not, _&&_}
 use mathlib.Core.List.{List, [], _∷_}
 use mathlib.Core.Option.{Option, none, some}
 use lib.ListN.{length, take, drop, getD}
-use lib.Dec.{eqb, leb, ltb}
-use Rattle.text.specs.Bytes.{is, first, afterLast, part}
+use lib.Dec.{leb, ltb}
+use Rattle.text.specs.Bytes.{is, afterLast, part}
 use Rattle.heading.specs.Walk.{hashes}
 use Rattle.heading.specs.declared.walk.LineKind.{LineKind}
 use Rattle.heading.specs.declared.walk.LineKind.the-variants.{Quoted, Heading, Other}
@@ -14,6 +14,9 @@ use Rattle.commonmark.specs.Strip.{isBlankByte, strip, stripEnd, indent}
 pub record Atx : Type 0 where
   pub level : ℕ
   pub text : List ℕ
+
+abbrev pub heading : ℕ → List ℕ → Option Atx
+heading n text = some (record { level = n; text = text })
 
 -- "must be followed by spaces or tabs, or by the end of line"
 abbrev pub isFollowed : List ℕ → Bool
@@ -40,7 +43,7 @@ unclosed s = cond (isClosed s) (stripEnd (take (runStart s) s)) s
 abbrev pub atxFrom : List ℕ → Option Atx
 atxFrom t =
     cond ((leb 1 (hashes t) && leb (hashes t) 6) && isFollowed (drop (hashes t) t))
-    (some (record { level = hashes t; text = unclosed (strip (drop (hashes t) t)) }))
+    (heading (hashes t) (unclosed (strip (drop (hashes t) t))))
     none
 
 unfoldable pub atx : List ℕ → Option Atx
@@ -49,5 +52,5 @@ atx l = cond (leb (indent l) 3) (atxFrom (drop (indent l) l)) none
 -- ours: what `headingOf` says of a line
 abbrev pub asAtx : List ℕ → LineKind → Option Atx
 asAtx l Quoted = none
-asAtx l (Heading n a e) = some (record { level = n; text = part a e l })
+asAtx l (Heading n a e) = heading n (part a e l)
 asAtx l Other = none

@@ -4,11 +4,8 @@ use mathlib.Core.List.{List, [], _∷_}
 use mathlib.Core.Option.{Option, none, some}
 use mathlib.Core.Path.{_≡_}
 use Rattle.text.specs.Pattern.{bytes}
-use Rattle.commonmark.specs.Atx.{Atx, atx}
+use Rattle.commonmark.specs.Atx.{heading, atx}
 use Rattle.commonmark.specs.Fenced.{Mark, backtick, tilde, CodeFence, codeAfter}
-
-abbrev heading : ℕ → List ℕ → Option Atx
-heading n text = some (record { level = n; text = text })
 
 -- 4.2: levels; seven hashes and no space are none; the text stripped; indentation; the closing run
 abbrev pub Atx-4-2 : Type 0

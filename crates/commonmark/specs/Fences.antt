@@ -1,6 +1,6 @@
 -- Where our fences and CommonMark's part: the named departures of docs/DIFFERENCES.md, each a test of the open fence and the line, and the theorems that there are no others and that each is one.
 use Prim.Native.Nat.{ℕ, _≤_}
-use mathlib.Core.Bool.{Bool, true, false, cond, not, _&&_, _||_}
+use mathlib.Core.Bool.{Bool, true, false, not, _&&_, _||_}
 use mathlib.Core.List.{List, [], _∷_, _++_}
 use mathlib.Core.Option.{Option, none, some}
 use mathlib.Core.Path.{_≡_}

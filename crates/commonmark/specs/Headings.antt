@@ -10,7 +10,7 @@ use Rattle.text.specs.Pattern.{bytes, startsWith}
 use Rattle.text.specs.Space.{isSpace}
 use Rattle.heading.specs.Walk.{hashes, headingOf}
 use Rattle.commonmark.specs.Strip.{ended, strip, indent}
-use Rattle.commonmark.specs.Atx.{Atx, atx, asAtx, isClosed}
+use Rattle.commonmark.specs.Atx.{Atx, heading, atx, asAtx, isClosed}
 
 abbrev pub isHeading : Option Atx → Bool
 isHeading none = false
@@ -44,11 +44,12 @@ bareHashes l = isOpened l && eqb (length (behind l)) 0
 abbrev pub closingRun : List ℕ → Bool
 closingRun l = isOurs l && isClosed (strip (behind l))
 
--- another space byte at an end of the text, 0B or 0C hex (0A and 0D end a line of CommonMark's): we trim it, CommonMark keeps it
+-- a space byte at an end of a text
 abbrev pub isSpaced : List ℕ → Bool
 isSpaced [] = false
 isSpaced (x ∷ s) = isSpace x || isSpace (getD (x ∷ s) (length s) 0)
 
+-- another space byte at an end of the text, 0B or 0C hex (0A and 0D end a line of CommonMark's): we trim it, CommonMark keeps it
 abbrev pub otherSpaceBytes : List ℕ → Bool
 otherSpaceBytes l = isOurs l && isSpaced (strip (behind l))
 
@@ -72,9 +73,6 @@ OtherHeading = (l : List ℕ) → departs (ended l) ≡ true → asAtx l (headin
 -- a line on which a departure holds, and what we and CommonMark say of it
 abbrev pub Parts : (List ℕ → Bool) → List ℕ → Option Atx → Option Atx → Type 0
 Parts test l ours theirs = (test (ended l) ≡ true) × ((asAtx l (headingOf l) ≡ ours) × (atx (ended l) ≡ theirs))
-
-abbrev heading : ℕ → List ℕ → Option Atx
-heading n text = some (record { level = n; text = text })
 
 -- each of them parts the two
 abbrev pub EachParts : Type 0

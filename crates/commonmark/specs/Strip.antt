@@ -6,7 +6,7 @@ use lib.ListN.{take, drop}
 use lib.Dec.{eqb}
 use Rattle.text.specs.Bytes.{first, afterLast}
 
--- "A line ending is a line feed, a carriage return not followed by a line feed, or a carriage return and a following line feed": CommonMark's line, of ours, which stands between LFs
+-- "A line ending is a line feed, a carriage return not followed by a line feed, or a carriage return and a following line feed": CommonMark's line, of ours, which stands between LFs, where no CR stands inside it
 unfoldable pub ended : List ℕ → List ℕ
 ended [] = []
 ended (x ∷ []) = cond (eqb x 0x0D) [] (x ∷ [])

@@ -12,7 +12,7 @@ use Rattle.shift.specs.Shift.{kindsOf, shiftFor, movedLine, pastFrom}
 use Rattle.member.specs.Member.{Prepared, movable}
 use Rattle.emitted.specs.Line.{rewriteLine}
 
--- "shifted to 2, title excepted (16)"; "Here 16, 18 and 19 stand at the member; lines count its prepared lines."
+-- "shifted to 2, title excepted (16), links outside fences rewritten as `rewrite_links`"; "Here 16, 18 and 19 stand at the member; lines count its prepared lines."
 unfoldable pub emit : (List ℕ → Option (List ℕ)) → List ℕ → Prepared → Part (List (List ℕ))
 emit titles url m =
     unless (pastFrom (λ n. HeadingLevel (place (m .file) n)) 1 (shiftFor 2 (kindsOf (movable (m .lines)))) (kindsOf (movable (m .lines))))

@@ -9,14 +9,15 @@ use lib.ListN.{length, take, drop, getD, length-take}
 use lib.Seq.{take-length, take-nil}
 use lib.Dec.{eqb, leb}
 use Rattle.text.specs.Bytes.{bit, any, first, afterLast}
-use Rattle.text.specs.Ascii.{isDigit, lower}
+use Rattle.text.specs.Ascii.{lower}
 use Rattle.text.specs.Space.{isSpace, isOther, lead, kept, trim, trimStart, trimEnd}
 use Rattle.text.proofs.BytesLaws.{or-left, or-right, after-hit, after-miss, after-le}
 use Rattle.anchor.specs.Anchor.{isMark, isKept, shows, markupAfter, plainFrom, plain, anchorOf, slug}
 use Rattle.anchor.specs.declared.Markup.{Markup}
 use Rattle.anchor.specs.declared.Markup.the-variants.{Written, Bracket, Behind, Target}
 use Rattle.commonmark.specs.Headings.{isSpaced}
-use Rattle.commonmark.proofs.BoolLaws.{of-list, second, and-true, and-left, and-right, or-first, _or_}
+use Rattle.text.proofs.PatternLaws.{and-left, and-right}
+use Rattle.commonmark.proofs.BoolLaws.{of-list, second, and-true, or-first, _or_}
 use Rattle.identifiers.specs.Identifiers.{isLeft, identifier, anyFrom, somewhere, underscore, target, markAtEnd, otherSpace, departsAt, departs, SameIdentifier, OtherIdentifier, EachParts, NoneHolds}
 
 -- a text with no space byte at its ends is trimmed already

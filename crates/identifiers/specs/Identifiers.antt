@@ -29,7 +29,7 @@ anyFrom f m (x ∷ s) = f m x || anyFrom f (markupAfter m x) s
 abbrev pub somewhere : (Markup → ℕ → Bool) → List ℕ → Bool
 somewhere f t = anyFrom f Written t
 
--- an underscore outside brackets: the manual keeps it, we drop it as a mark
+-- an underscore that we drop, outside brackets: the manual keeps it
 abbrev pub underscore : Markup → ℕ → Bool
 underscore m x = eqb x 0x5F && not (shows m x)
 
@@ -58,7 +58,7 @@ departsAt m x =
 unfoldable pub departs : List ℕ → Bool
 departs t = markAtEnd t || somewhere departsAt t
 
--- where none of them holds, our anchor is the manual's identifier, for every text of which nothing is read as markup
+-- where none of them holds, our anchor is the manual's identifier, for every text, taken as plain
 abbrev pub SameIdentifier : Type 0
 SameIdentifier = (t : List ℕ) → departs t ≡ false → slug t ≡ identifier t
 

@@ -1,5 +1,4 @@
 // Reads what arguments name into buffers, and makes the index of the notes. What fails is said on standard error.
-ghost use mathlib.Core.Path.{_≡_};
 ghost use Prim.Native.Nat.{_+_, _≤_};
 ghost use lib.ListN.{length};
 ghost use Rattle.notes.specs.Notes.{Moved, Ends};

@@ -1,5 +1,4 @@
 // The file that a line of a note or of the list names.
-ghost use Prim.Native.Nat.{_≤_};
 use libc::STDERR_FILENO;
 use station::line;
 use station::shown;
