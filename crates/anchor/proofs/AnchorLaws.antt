@@ -1,4 +1,4 @@
--- Laws of `specs/Anchor.antt`: the plain text byte by byte, where the trimmed plain text starts and ends, and anchors byte by byte.
+-- Laws of `specs/Anchor.antt`: the text without its markup byte by byte, runs of underscores, where the trimmed text starts and ends, and anchors byte by byte.
 -- Assumes nothing.
 use Prim.Native.Nat.{ℕ, zero, suc, _+_, _-_, _≤_, _<_}
 use native.Mathlib.Nat.{not-suc-le-zero}
@@ -9,25 +9,16 @@ use mathlib.Core.Bool.{Bool, true, false, cond, not, _&&_, _||_, false≢true, a
 use mathlib.Core.List.{List, [], _∷_}
 use lib.ListN.{length, take, drop, getD, drop-of-length-le}
 use lib.Seq.{drop-cons}
-use lib.Dec.{eqb, eqb·suc-suc, eqb·zero-suc, eqb·suc-zero}
-use borrow.Author.Tests.{not-false, eq-eqb, ne-eqb}
+use lib.Dec.{eqb, leb, eqb·suc-suc, eqb·zero-suc, eqb·suc-zero}
+use borrow.Author.Tests.{not-true, not-false, eq-eqb, ne-eqb, eqb-true, leb-true, lt-leb}
 use Rattle.text.specs.Bytes.{part, any, first, afterLast}
 use Rattle.text.specs.Space.{isSpace, isOther, lead, kept, trimStart, trimEnd, trim}
 use Rattle.text.specs.Pattern.{startsWith, equals}
 use Rattle.text.proofs.BytesLaws.{or-left, or-right, after-none}
+use Rattle.text.proofs.PatternLaws.{and-left, and-right}
 use Rattle.text.specs.Ascii.{lower}
-use Rattle.anchor.specs.Anchor.{shows, markupAfter, plainFrom, isKept, anchorOf, plainEndFrom, stirred, numberFrom}
+use Rattle.anchor.specs.Anchor.{markupAfter, stands, isLinked, Cut, placed, cutFrom, isMark, isWord, wordFollows, wordBehind, stays, shows, plainFrom, isKept, anchorOf, isShown, wordAfter, isSeen, plainEndFrom, stirred, numberFrom}
 use Rattle.anchor.specs.declared.Markup.{Markup}
-
--- whether a byte is text and no space byte
-abbrev pub seen : Markup → ℕ → Bool
-seen m x = shows m x && not (isSpace x)
-
-pub seen-shown : (m : Markup) (x : ℕ) {a b v : Bool} → a ≡ shows m x → b ≡ isSpace x → a ≡ true → not b ≡ v → seen m x ≡ v
-seen-shown m x p q h k = rw (← p, ← q, h) k
-
-pub seen-hidden : (m : Markup) (x : ℕ) {a : Bool} → a ≡ shows m x → a ≡ false → seen m x ≡ false
-seen-hidden m x p h = rw (← p, h)
 
 -- trimming, by the first byte
 after-some : (f : ℕ → Bool) (s : List ℕ) → any f s ≡ true → 0 < afterLast f s
@@ -81,39 +72,169 @@ unfolding any
 trim-blank [] e = trim-nil
 trim-blank (x ∷ p) e = trim-space x p (not-false (isSpace x) (or-left (isOther x) (any isOther p) e)) ∙ trim-blank p (or-right (isOther x) (any isOther p) e)
 
--- where the plain text ends once the space bytes after it are trimmed
-unfoldable endOf : Markup → List ℕ → ℕ
-endOf m [] = 0
-endOf m (x ∷ s) = cond (any isOther (plainFrom (markupAfter m x) s)) (suc (endOf (markupAfter m x) s)) (cond (seen m x) 1 0)
+-- the text without its markup from a byte on, behind a letter or digit or not
+abbrev pub plainIn : Bool → Markup → List ℕ → List ℕ
+plainIn w m s = plainFrom w (cutFrom m s)
 
-any-nil : (m : Markup) → any isOther (plainFrom m []) ≡ false
-unfolding any plainFrom
-any-nil m = refl
+abbrev pub follows : Markup → List ℕ → Bool
+follows m s = wordFollows (cutFrom m s)
 
-any-plain : (m : Markup) (x : ℕ) (s : List ℕ) → any isOther (plainFrom m (x ∷ s)) ≡ (seen m x || any isOther (plainFrom (markupAfter m x) s))
-unfolding any plainFrom
-any-plain m x s = go (shows m x)
+-- by the first byte
+pub plain-cons : (w : Bool) (m : Markup) (x : ℕ) (s : List ℕ)
+    → let rest = plainIn (wordAfter w m x) (markupAfter m x) s in plainIn w m (x ∷ s) ≡ cond (isShown w m x s) (x ∷ rest) rest
+unfolding cutFrom plainFrom
+plain-cons w m x s = go (stands m x)
   where
-    go : (a : Bool) → any isOther (cond a (x ∷ plainFrom (markupAfter m x) s) (plainFrom (markupAfter m x) s))
-        ≡ ((a && not (isSpace x)) || any isOther (plainFrom (markupAfter m x) s))
+    go : (b : Bool) → plainFrom w (cond b (placed m x ∷ cutFrom (markupAfter m x) s) (cutFrom (markupAfter m x) s))
+        ≡ cond (b && (shows (placed m x) || stays w x (cutFrom (markupAfter m x) s)))
+        (x ∷ plainIn (cond b (wordBehind w x) w) (markupAfter m x) s)
+        (plainIn (cond b (wordBehind w x) w) (markupAfter m x) s)
     go true = refl
     go false = refl
 
-end-some : (m : Markup) (s : List ℕ) → any isOther (plainFrom m s) ≡ true → 0 < endOf m s
-unfolding endOf
-end-some m [] e = absurd (false≢true (sym (any-nil m) ∙ e))
-end-some m (x ∷ s) e = go (seen m x) (any isOther (plainFrom (markupAfter m x) s)) (sym (any-plain m x s) ∙ e)
+pub follows-cons : (m : Markup) (x : ℕ) (s : List ℕ)
+    → follows m (x ∷ s) ≡ cond (stands m x) (cond (eqb x 0x5F) (follows (markupAfter m x) s) (isWord x)) (follows (markupAfter m x) s)
+unfolding cutFrom wordFollows
+follows-cons m x s = go (stands m x)
+  where
+    go : (b : Bool) → wordFollows (cond b (placed m x ∷ cutFrom (markupAfter m x) s) (cutFrom (markupAfter m x) s))
+        ≡ cond b (cond (eqb x 0x5F) (follows (markupAfter m x) s) (isWord x)) (follows (markupAfter m x) s)
+    go true = refl
+    go false = refl
+
+plain-nil : (w : Bool) (m : Markup) → plainIn w m [] ≡ []
+unfolding cutFrom plainFrom
+plain-nil w m = refl
+
+follows-nil : (m : Markup) → follows m [] ≡ false
+unfolding cutFrom wordFollows
+follows-nil m = refl
+
+-- a run that no letter or digit follows goes, whatever stands before it
+pub goes : (s : List Cut) → wordFollows s ≡ false → plainFrom false s ≡ plainFrom true s
+unfolding wordFollows plainFrom
+goes [] h = refl
+goes (c ∷ s) h = go (eqb (c .byte) 0x5F) h (goes s)
+  where
+    go : (b : Bool) → cond b (wordFollows s) (isWord (c .byte)) ≡ false → (wordFollows s ≡ false → plainFrom false s ≡ plainFrom true s)
+        → cond (shows c || (b && (false && wordFollows s))) (c .byte ∷ plainFrom (cond b false (isWord (c .byte))) s) (plainFrom (cond b false (isWord (c .byte))) s)
+        ≡ cond (shows c || (b && (true && wordFollows s))) (c .byte ∷ plainFrom (cond b true (isWord (c .byte))) s) (plainFrom (cond b true (isWord (c .byte))) s)
+    go true e ih = rw (e, ih e)
+    go false e ih = refl
+
+-- a letter or digit is text, and no space byte
+word-mark : (x : ℕ) → isMark x ≡ true → isWord x ≡ false
+unfolding lower
+word-mark x h = go (eqb x 0x60) (eqb x 0x2A) refl refl h
+  where
+    go : (y z : Bool) → eqb x 0x60 ≡ y → eqb x 0x2A ≡ z → (y || (z || eqb x 0x5F)) ≡ true → isWord x ≡ false
+    go true z p q k = rw (eqb-true x 0x60 p)
+    go false true p q k = rw (eqb-true x 0x2A q)
+    go false false p q k = rw (eqb-true x 0x5F k)
+
+word-space : (x : ℕ) → isSpace x ≡ true → isWord x ≡ false
+unfolding lower isSpace
+word-space x h = go (eqb x 0x20) refl h
+  where
+    go : (y : Bool) → eqb x 0x20 ≡ y → ((leb 0x09 x && leb x 0x0D) || y) ≡ true → isWord x ≡ false
+    go true p k = rw (eqb-true x 0x20 p)
+    go false p k = small (leb-true x 0x0D (low (leb 0x09 x) (leb x 0x0D) k))
+      where
+        low : (a b : Bool) → ((a && b) || false) ≡ true → b ≡ true
+        low true true e = refl
+        low true false e = e
+        low false b e = absurd (false≢true e)
+
+        small : x ≤ 0x0D → isWord x ≡ false
+        small l = rw (lt-leb 0x41 x (omega arith), lt-leb 0x61 x (omega arith), lt-leb 0x30 x (omega arith))
+
+unseen-word : (m : Markup) (x : ℕ) → isSeen m x ≡ false → stands m x ≡ true → isWord x ≡ false
+unseen-word m x h k = go (isMark x) (isSpace x) refl refl (rw k at h)
+  where
+    go : (y z : Bool) → isMark x ≡ y → isSpace x ≡ z → ((isLinked m || not y) && not z) ≡ false → isWord x ≡ false
+    go true z p q e = word-mark x p
+    go false true p q e = word-space x q
+    go false false p q e = absurd (false≢true (sym e ∙ yes (isLinked m)))
+      where
+        yes : (l : Bool) → ((l || true) && true) ≡ true
+        yes true = refl
+        yes false = refl
+
+-- whether a byte that is text and no space byte is left
+unfoldable anySeen : Markup → List ℕ → Bool
+anySeen m [] = false
+anySeen m (x ∷ s) = isSeen m x || anySeen (markupAfter m x) s
+
+or-false : (a : Bool) → (a || false) ≡ a
+or-false true = refl
+or-false false = refl
+
+follows-none : (m : Markup) (s : List ℕ) → anySeen m s ≡ false → follows m s ≡ false
+unfolding anySeen
+follows-none m [] h = follows-nil m
+follows-none m (x ∷ s) h =
+    follows-cons m x s ∙ go (stands m x) (eqb x 0x5F) refl (follows-none (markupAfter m x) s (or-right (isSeen m x) _ h))
+  where
+    go : (a b : Bool) → stands m x ≡ a → follows (markupAfter m x) s ≡ false
+        → cond a (cond b (follows (markupAfter m x) s) (isWord x)) (follows (markupAfter m x) s) ≡ false
+    go true true p ih = ih
+    go true false p ih = unseen-word m x (or-left (isSeen m x) _ h) p
+    go false b p ih = ih
+
+stays-seen : (w : Bool) (m : Markup) (x : ℕ) (s : List ℕ) → anySeen m s ≡ false → stays w x (cutFrom m s) ≡ false
+stays-seen w m x s h = rw (follows-none m s h) (go (eqb x 0x5F) w)
+  where
+    go : (a b : Bool) → (a && (b && false)) ≡ false
+    go true true = refl
+    go true false = refl
+    go false b = refl
+
+-- the text without its markup has a byte that is no space byte where one is seen: an underscore that stays has one behind it
+any-plain : (w : Bool) (m : Markup) (s : List ℕ) → any isOther (plainIn w m s) ≡ anySeen m s
+unfolding any anySeen
+any-plain w m [] = rw (plain-nil w m)
+any-plain w m (x ∷ s) =
+    ap (any isOther) (plain-cons w m x s)
+    ∙ go (stands m x) (shows (placed m x)) (anySeen (markupAfter m x) s) refl (any-plain (wordAfter w m x) (markupAfter m x) s)
+  where
+    rest : List ℕ
+    rest = plainIn (wordAfter w m x) (markupAfter m x) s
+
+    kept-or : (b o : Bool) → any isOther rest ≡ true → any isOther (cond b (x ∷ rest) rest) ≡ true
+    kept-or true o e = rw e (yes (isSpace x))
+      where
+        yes : (z : Bool) → (not z || true) ≡ true
+        yes true = refl
+        yes false = refl
+    kept-or false o e = e
+
+    go : (a b c : Bool) → anySeen (markupAfter m x) s ≡ c → any isOther rest ≡ c
+        → any isOther (cond (a && (b || stays w x (cutFrom (markupAfter m x) s))) (x ∷ rest) rest) ≡ (((a && b) && not (isSpace x)) || c)
+    go true true c e ih = rw ih
+    go true false true e ih = kept-or (stays w x (cutFrom (markupAfter m x) s)) false ih
+    go true false false e ih = rw (stays-seen w (markupAfter m x) x s e) ih
+    go false b c e ih = ih
+
+-- where the text ends once the space bytes after it are trimmed
+unfoldable endOf : Markup → List ℕ → ℕ
+endOf m [] = 0
+endOf m (x ∷ s) = cond (anySeen (markupAfter m x) s) (suc (endOf (markupAfter m x) s)) (cond (isSeen m x) 1 0)
+
+end-some : (m : Markup) (s : List ℕ) → anySeen m s ≡ true → 0 < endOf m s
+unfolding endOf anySeen
+end-some m [] e = absurd (false≢true e)
+end-some m (x ∷ s) e = go (isSeen m x) (anySeen (markupAfter m x) s) e
   where
     go : (v c : Bool) → (v || c) ≡ true → 0 < cond c (suc (endOf (markupAfter m x) s)) (cond v 1 0)
     go v true h = omega arith
     go true false h = omega arith
     go false false h = absurd (false≢true h)
 
-plain-end : (m : Markup) (e n : ℕ) (s : List ℕ) → plainEndFrom m e n s ≡ cond (any isOther (plainFrom m s)) (n + endOf m s) e
-unfolding plainEndFrom endOf
-plain-end m e n [] = rw (any-nil m)
+plain-end : (m : Markup) (e n : ℕ) (s : List ℕ) → plainEndFrom m e n s ≡ cond (anySeen m s) (n + endOf m s) e
+unfolding plainEndFrom endOf anySeen
+plain-end m e n [] = refl
 plain-end m e n (x ∷ s) =
-    plain-end (markupAfter m x) (cond (seen m x) (suc n) e) (suc n) s ∙ rw (any-plain m x s) (go (seen m x) (any isOther (plainFrom (markupAfter m x) s)))
+    plain-end (markupAfter m x) (cond (isSeen m x) (suc n) e) (suc n) s ∙ go (isSeen m x) (anySeen (markupAfter m x) s)
   where
     go : (v c : Bool) → cond c (suc n + endOf (markupAfter m x) s) (cond v (suc n) e)
         ≡ cond (v || c) (n + cond c (suc (endOf (markupAfter m x) s)) (cond v 1 0)) e
@@ -122,55 +243,126 @@ plain-end m e n (x ∷ s) =
     go false true = omega arith
     go false false = refl
 
-plain-take : (m : Markup) (s : List ℕ) → plainFrom m (take (endOf m s) s) ≡ trimEnd (plainFrom m s)
-unfolding endOf plainFrom
-plain-take m [] = sym (trimEnd-blank (plainFrom m []) (any-nil m))
-plain-take m (x ∷ s) = go (shows m x) (not (isSpace x)) (any isOther (plainFrom (markupAfter m x) s)) refl refl refl (plain-take (markupAfter m x) s)
+-- what follows a run is the same in the text up to there
+follows-take : (m : Markup) (s : List ℕ) → follows m (take (endOf m s) s) ≡ follows m s
+unfolding endOf
+follows-take m [] = refl
+follows-take m (x ∷ s) =
+    go (anySeen (markupAfter m x) s) (isSeen m x) refl refl (follows-take (markupAfter m x) s) ∙ sym (follows-cons m x s)
   where
-    go : (a v c : Bool) → shows m x ≡ a → not (isSpace x) ≡ v → any isOther (plainFrom (markupAfter m x) s) ≡ c
-        → plainFrom (markupAfter m x) (take (endOf (markupAfter m x) s) s) ≡ trimEnd (plainFrom (markupAfter m x) s)
-        → plainFrom m (take (cond c (suc (endOf (markupAfter m x) s)) (cond (a && v) 1 0)) (x ∷ s))
-        ≡ trimEnd (cond a (x ∷ plainFrom (markupAfter m x) s) (plainFrom (markupAfter m x) s))
-    go true v true p q r h = rw (p, trimEnd-cons x (plainFrom (markupAfter m x) s), r, h)
-    go false v true p q r h = rw p h
-    go true true false p q r h = rw (p, trimEnd-cons x (plainFrom (markupAfter m x) s), r, q)
-    go true false false p q r h = rw (trimEnd-cons x (plainFrom (markupAfter m x) s), r, q)
-    go false v false p q r h = sym (trimEnd-blank (plainFrom (markupAfter m x) s) r)
+    none : (a b : Bool) → stands m x ≡ a → isSeen m x ≡ false → cond a (cond b false (isWord x)) false ≡ false
+    none true true p q = refl
+    none true false p q = unseen-word m x q p
+    none false b p q = refl
 
--- a seen byte: what stands from it up to the place after the last seen byte is the trimmed plain text
-seen-first : (m : Markup) (x : ℕ) (s : List ℕ) (n e : ℕ) → shows m x ≡ true → isSpace x ≡ false → plainEndFrom m 0 n (x ∷ s) ≡ e
-    → plainFrom m (take (e - n) (x ∷ s)) ≡ trim (plainFrom m (x ∷ s))
-unfolding plainFrom
-seen-first m x s n e p q h =
-    let a : any isOther (plainFrom m (x ∷ s)) ≡ true = any-plain m x s ∙ rw (p, q) in
+    go : (c v : Bool) → anySeen (markupAfter m x) s ≡ c → isSeen m x ≡ v
+        → follows (markupAfter m x) (take (endOf (markupAfter m x) s) s) ≡ follows (markupAfter m x) s
+        → follows m (take (cond c (suc (endOf (markupAfter m x) s)) (cond v 1 0)) (x ∷ s))
+        ≡ cond (stands m x) (cond (eqb x 0x5F) (follows (markupAfter m x) s) (isWord x)) (follows (markupAfter m x) s)
+    go true v p q ih = rw (follows-cons m x (take (endOf (markupAfter m x) s) s), ih)
+    go false true p q ih = rw (follows-cons m x [], follows-nil (markupAfter m x), follows-none (markupAfter m x) s p)
+    go false false p q ih = rw (follows-nil m, follows-none (markupAfter m x) s p) (sym (none (stands m x) (eqb x 0x5F) refl q))
+
+-- a byte that is shown, hidden or seen
+pub plain-shown : (w : Bool) (m : Markup) (x : ℕ) (s : List ℕ) → isShown w m x s ≡ true
+    → plainIn w m (x ∷ s) ≡ x ∷ plainIn (wordAfter w m x) (markupAfter m x) s
+plain-shown w m x s e = plain-cons w m x s ∙ ap (λ (b : Bool). cond b (x ∷ plainIn (wordAfter w m x) (markupAfter m x) s) (plainIn (wordAfter w m x) (markupAfter m x) s)) e
+
+pub plain-hidden : (w : Bool) (m : Markup) (x : ℕ) (s : List ℕ) → isShown w m x s ≡ false
+    → plainIn w m (x ∷ s) ≡ plainIn (wordAfter w m x) (markupAfter m x) s
+plain-hidden w m x s e = plain-cons w m x s ∙ ap (λ (b : Bool). cond b (x ∷ plainIn (wordAfter w m x) (markupAfter m x) s) (plainIn (wordAfter w m x) (markupAfter m x) s)) e
+
+seen-shown : (w : Bool) (m : Markup) (x : ℕ) (s : List ℕ) → isSeen m x ≡ true → isShown w m x s ≡ true
+seen-shown w m x s h = go (stands m x) (shows (placed m x)) h
+  where
+    go : (a b : Bool) → ((a && b) && not (isSpace x)) ≡ true → (a && (b || stays w x (cutFrom (markupAfter m x) s))) ≡ true
+    go true true e = refl
+    go true false e = absurd (false≢true e)
+    go false b e = absurd (false≢true e)
+
+-- what is shown and not seen is a space byte, where nothing is seen behind it or no letter or digit stands before it
+shown-space : (w : Bool) (m : Markup) (x : ℕ) (s : List ℕ) → isSeen m x ≡ false → stays w x (cutFrom (markupAfter m x) s) ≡ false → isShown w m x s ≡ true → isSpace x ≡ true
+shown-space w m x s h k e = go (stands m x) (shows (placed m x)) h (rw k at e)
+  where
+    go : (a b : Bool) → ((a && b) && not (isSpace x)) ≡ false → (a && (b || false)) ≡ true → isSpace x ≡ true
+    go true true p q = not-false (isSpace x) p
+    go true false p q = absurd (false≢true q)
+    go false b p q = absurd (false≢true q)
+
+plain-take : (w : Bool) (m : Markup) (s : List ℕ) → plainIn w m (take (endOf m s) s) ≡ trimEnd (plainIn w m s)
+unfolding endOf anySeen
+plain-take w m [] = plain-nil w m ∙ sym (trimEnd-blank (plainIn w m []) (any-plain w m []))
+plain-take w m (x ∷ s) =
+    go (anySeen (markupAfter m x) s) (isSeen m x) (isShown w m x s) refl refl refl (plain-take (wordAfter w m x) (markupAfter m x) s)
+  where
+    rest : List ℕ
+    rest = plainIn (wordAfter w m x) (markupAfter m x) s
+
+    on : (b : Bool) → any isOther rest ≡ true → cond b (x ∷ trimEnd rest) (trimEnd rest) ≡ trimEnd (cond b (x ∷ rest) rest)
+    on true h = sym (trimEnd-cons x rest ∙ rw h)
+    on false h = refl
+
+    go : (c v b : Bool) → anySeen (markupAfter m x) s ≡ c → isSeen m x ≡ v → isShown w m x s ≡ b
+        → plainIn (wordAfter w m x) (markupAfter m x) (take (endOf (markupAfter m x) s) s) ≡ trimEnd rest
+        → plainIn w m (take (cond c (suc (endOf (markupAfter m x) s)) (cond v 1 0)) (x ∷ s)) ≡ trimEnd (plainIn w m (x ∷ s))
+    go true v b p q r ih =
+        plain-cons w m x (take (endOf (markupAfter m x) s) s)
+        ∙ (rw (follows-take (markupAfter m x) s, ih) (on (isShown w m x s) (any-plain (wordAfter w m x) (markupAfter m x) s ∙ p)) ∙ ap trimEnd (sym (plain-cons w m x s)))
+    go false true b p q r ih =
+        plain-shown w m x [] (seen-shown w m x [] q)
+        ∙ (ap (λ (t : List ℕ). x ∷ t) (plain-nil (wordAfter w m x) (markupAfter m x))
+        ∙ sym (ap trimEnd (plain-shown w m x s (seen-shown w m x s q)) ∙ (trimEnd-cons x rest ∙ rw (any-plain (wordAfter w m x) (markupAfter m x) s ∙ p, and-right (stands m x && shows (placed m x)) _ q))))
+    go false false true p q r ih =
+        plain-nil w m
+        ∙ sym (ap trimEnd (plain-shown w m x s r) ∙ (trimEnd-cons x rest ∙ rw (any-plain (wordAfter w m x) (markupAfter m x) s ∙ p, shown-space w m x s q (stays-seen w (markupAfter m x) x s p) r)))
+    go false false false p q r ih =
+        plain-nil w m ∙ sym (ap trimEnd (plain-hidden w m x s r) ∙ trimEnd-blank rest (any-plain (wordAfter w m x) (markupAfter m x) s ∙ p))
+
+-- a seen byte: what stands from it up to the place after the last seen byte is the trimmed text
+seen-first : (w : Bool) (m : Markup) (x : ℕ) (s : List ℕ) (n e : ℕ) → isSeen m x ≡ true → plainEndFrom m 0 n (x ∷ s) ≡ e
+    → plainIn w m (take (e - n) (x ∷ s)) ≡ trim (plainIn w m (x ∷ s))
+unfolding anySeen
+seen-first w m x s n e q h =
+    let a : anySeen m (x ∷ s) ≡ true = rw q in
     let k : e ≡ n + endOf m (x ∷ s) = sym h ∙ (plain-end m 0 n (x ∷ s) ∙ ap (λ (b : Bool). cond b (n + endOf m (x ∷ s)) 0) a) in
     let j : e - n ≡ endOf m (x ∷ s) = omega arith in
-    ap (λ (d : ℕ). plainFrom m (take d (x ∷ s))) j ∙ (plain-take m (x ∷ s) ∙ rw p (sym (trim-other x (plainFrom (markupAfter m x) s) q)))
+    let p = plain-shown w m x s (seen-shown w m x s q) in
+    let o = trim-other x (plainIn (wordAfter w m x) (markupAfter m x) s) (not-true (isSpace x) (and-right (stands m x && shows (placed m x)) _ q)) in
+    ap (λ (d : ℕ). plainIn w m (take d (x ∷ s))) j ∙ (plain-take w m (x ∷ s) ∙ (ap trimEnd p ∙ sym (ap trim p ∙ o)))
 
 -- no seen byte is left
-seen-none : (m : Markup) (s : List ℕ) (n e : ℕ) → e ≤ n → plainEndFrom m 0 n s ≡ e → plainFrom m (take (e - n) s) ≡ trim (plainFrom m s)
-unfolding plainFrom
-seen-none m s n e l h = go (any isOther (plainFrom m s)) refl (sym h ∙ plain-end m 0 n s)
+seen-none : (w : Bool) (m : Markup) (s : List ℕ) (n e : ℕ) → e ≤ n → plainEndFrom m 0 n s ≡ e → plainIn w m (take (e - n) s) ≡ trim (plainIn w m s)
+seen-none w m s n e l h = go (anySeen m s) refl (sym h ∙ plain-end m 0 n s)
   where
-    go : (b : Bool) → any isOther (plainFrom m s) ≡ b → e ≡ cond b (n + endOf m s) 0 → plainFrom m (take (e - n) s) ≡ trim (plainFrom m s)
+    go : (b : Bool) → anySeen m s ≡ b → e ≡ cond b (n + endOf m s) 0 → plainIn w m (take (e - n) s) ≡ trim (plainIn w m s)
     go true a k = absurd (omega (arith, end-some m s a))
     go false a k =
         let j : e - n ≡ 0 = omega arith in
-        ap (λ (d : ℕ). plainFrom m (take d s)) j ∙ sym (trim-blank (plainFrom m s) a)
+        ap (λ (d : ℕ). plainIn w m (take d s)) j ∙ (plain-nil w m ∙ sym (trim-blank (plainIn w m s) (any-plain w m s ∙ a)))
 
-trim-unseen : (m : Markup) (x : ℕ) (s : List ℕ) → seen m x ≡ false → trim (plainFrom (markupAfter m x) s) ≡ trim (plainFrom m (x ∷ s))
-unfolding plainFrom
-trim-unseen m x s e = go (shows m x) (isSpace x) refl e
+-- a byte that is not seen has no letter or digit behind it, and trimming drops it
+word-unseen : (m : Markup) (x : ℕ) → isSeen m x ≡ false → wordAfter false m x ≡ false
+word-unseen m x h = go (stands m x) (eqb x 0x5F) refl
   where
-    go : (a b : Bool) → isSpace x ≡ b → (a && not b) ≡ false
-        → trim (plainFrom (markupAfter m x) s) ≡ trim (cond a (x ∷ plainFrom (markupAfter m x) s) (plainFrom (markupAfter m x) s))
-    go true true q h = sym (trim-space x (plainFrom (markupAfter m x) s) q)
-    go true false q h = absurd (false≢true (sym h))
-    go false b q h = refl
+    go : (a b : Bool) → stands m x ≡ a → cond a (cond b false (isWord x)) false ≡ false
+    go true true p = refl
+    go true false p = unseen-word m x h p
+    go false b p = refl
+
+trim-unseen : (m : Markup) (x : ℕ) (s : List ℕ) → isSeen m x ≡ false → trim (plainIn false (markupAfter m x) s) ≡ trim (plainIn false m (x ∷ s))
+trim-unseen m x s h = ap (λ (w : Bool). trim (plainIn w (markupAfter m x) s)) (sym (word-unseen m x h)) ∙ go (isShown false m x s) refl
+  where
+    none : (b : Bool) → (b && (false && wordFollows (cutFrom (markupAfter m x) s))) ≡ false
+    none true = refl
+    none false = refl
+
+    go : (b : Bool) → isShown false m x s ≡ b → trim (plainIn (wordAfter false m x) (markupAfter m x) s) ≡ trim (plainIn false m (x ∷ s))
+    go true e = sym (ap trim (plain-shown false m x s e) ∙ trim-space x _ (shown-space false m x s h (none (eqb x 0x5F)) e))
+    go false e = ap trim (sym (plain-hidden false m x s e))
 
 -- walks by the byte at place i
 module _ (m : Markup) (t : List ℕ) (i : ℕ) where
-  pub end-on : (e : ℕ) (v : Bool) → i < length t → seen m (getD t i 0) ≡ v
+  pub end-on : (e : ℕ) (v : Bool) → i < length t → isSeen m (getD t i 0) ≡ v
       → plainEndFrom (markupAfter m (getD t i 0)) (cond v (i + 1) e) (i + 1) (drop (i + 1) t) ≡ plainEndFrom m e i (drop i t)
   unfolding plainEndFrom
   end-on e v h q = rw (← q, add-one i, drop-cons t i 0)
@@ -179,97 +371,101 @@ module _ (m : Markup) (t : List ℕ) (i : ℕ) where
   unfolding plainEndFrom
   end-done e h = rw (drop-of-length-le t h)
 
-  pub start-on : i < length t → seen m (getD t i 0) ≡ false
-      → trim (plainFrom (markupAfter m (getD t i 0)) (drop (i + 1) t)) ≡ trim (plainFrom m (drop i t))
+  pub start-on : i < length t → isSeen m (getD t i 0) ≡ false
+      → trim (plainIn false (markupAfter m (getD t i 0)) (drop (i + 1) t)) ≡ trim (plainIn false m (drop i t))
   start-on h q = rw (add-one i, drop-cons t i 0) (trim-unseen m (getD t i 0) (drop (suc i) t) q)
 
-  pub start-here : (e : ℕ) → i < length t → shows m (getD t i 0) ≡ true → isSpace (getD t i 0) ≡ false → plainEndFrom m 0 i (drop i t) ≡ e
-      → plainFrom m (part i e t) ≡ trim (plainFrom m (drop i t))
-  start-here e h p q k =
-      rw (drop-cons t i 0) (seen-first m (getD t i 0) (drop (suc i) t) i e p q (rw (drop-cons t i 0) at k))
+  pub start-here : (e : ℕ) → i < length t → isSeen m (getD t i 0) ≡ true → plainEndFrom m 0 i (drop i t) ≡ e
+      → plainIn false m (part i e t) ≡ trim (plainIn false m (drop i t))
+  start-here e h q k = rw (drop-cons t i 0) (seen-first false m (getD t i 0) (drop (suc i) t) i e q (rw (drop-cons t i 0) at k))
 
-  pub start-nowhere : (e : ℕ) → e ≤ i → plainEndFrom m 0 i (drop i t) ≡ e → plainFrom m (part i e t) ≡ trim (plainFrom m (drop i t))
-  start-nowhere e l k = seen-none m (drop i t) i e l k
+  pub start-nowhere : (e : ℕ) → e ≤ i → plainEndFrom m 0 i (drop i t) ≡ e → plainIn false m (part i e t) ≡ trim (plainIn false m (drop i t))
+  start-nowhere e l k = seen-none false m (drop i t) i e l k
 
--- what an anchor takes of a byte
-anchor-keeps : (x : ℕ) (s : List ℕ) → isKept x ≡ true → anchorOf (x ∷ s) ≡ lower x ∷ anchorOf s
-unfolding anchorOf
-anchor-keeps x s e = ap (λ (b : Bool). cond b (lower x ∷ anchorOf s) (cond (eqb x 0x20) (0x2D ∷ anchorOf s) (anchorOf s))) e
-
-anchor-else : (x : ℕ) (s : List ℕ) → isKept x ≡ false → anchorOf (x ∷ s) ≡ cond (eqb x 0x20) (0x2D ∷ anchorOf s) (anchorOf s)
-unfolding anchorOf
-anchor-else x s e = ap (λ (b : Bool). cond b (lower x ∷ anchorOf s) (cond (eqb x 0x20) (0x2D ∷ anchorOf s) (anchorOf s))) e
-
-plain-shown : (m : Markup) (x : ℕ) (s : List ℕ) → shows m x ≡ true → plainFrom m (x ∷ s) ≡ x ∷ plainFrom (markupAfter m x) s
-unfolding plainFrom
-plain-shown m x s e = rw e
-
-plain-hidden : (m : Markup) (x : ℕ) (s : List ℕ) → shows m x ≡ false → plainFrom m (x ∷ s) ≡ plainFrom (markupAfter m x) s
-unfolding plainFrom
-plain-hidden m x s e = rw e
-
--- what a byte adds to an anchor's number
-module _ (m : Markup) (x : ℕ) (s : List ℕ) (n : ℕ) where
-  abbrev Adds : ℕ → Type 0
-  Adds r = numberFrom n (anchorOf (plainFrom m (x ∷ s))) ≡ numberFrom r (anchorOf (plainFrom (markupAfter m x) s))
-
-  shown-number : shows m x ≡ true → numberFrom n (anchorOf (plainFrom m (x ∷ s))) ≡ numberFrom n (anchorOf (x ∷ plainFrom (markupAfter m x) s))
-  shown-number p = ap (λ (a : List ℕ). numberFrom n (anchorOf a)) (plain-shown m x s p)
-
-  pub number-kept : shows m x ≡ true → isKept x ≡ true → Adds (stirred n (lower x))
-  unfolding numberFrom
-  number-kept p q = shown-number p ∙ ap (numberFrom n) (anchor-keeps x (plainFrom (markupAfter m x) s) q)
-
-  pub number-space : shows m x ≡ true → isKept x ≡ false → x ≡ 0x20 → Adds (stirred n 0x2D)
-  unfolding numberFrom
-  number-space p q r = shown-number p ∙ ap (numberFrom n) (anchor-else x (plainFrom (markupAfter m x) s) q) ∙ rw (eq-eqb x 0x20 r)
-
-  pub number-other : shows m x ≡ true → isKept x ≡ false → (x ≡ 0x20 → ⊥) → Adds n
-  number-other p q r = shown-number p ∙ ap (numberFrom n) (anchor-else x (plainFrom (markupAfter m x) s) q) ∙ rw (ne-eqb x 0x20 r)
-
-  pub number-hidden : shows m x ≡ false → Adds n
-  number-hidden p = ap (λ (a : List ℕ). numberFrom n (anchorOf a)) (plain-hidden m x s p)
-
-pub part-cons : (t : List ℕ) (i e : ℕ) → i < e → e ≤ length t → part i e t ≡ getD t i 0 ∷ part (i + 1) e t
+part-cons : (t : List ℕ) (i e : ℕ) → i < e → e ≤ length t → part i e t ≡ getD t i 0 ∷ part (i + 1) e t
 part-cons t i e h k =
     let j : e - i ≡ suc (e - (i + 1)) = omega arith in
     let l : i < length t = omega arith in
     rw (j, drop-cons t i 0, add-one i)
 
--- a part of a text from place i up to e, by its first byte
-module _ (m : Markup) (t : List ℕ) (i e : ℕ) where
-  pub anchor-kept : i < e → e ≤ length t → shows m (getD t i 0) ≡ true → isKept (getD t i 0) ≡ true
-      → anchorOf (plainFrom m (part i e t)) ≡ lower (getD t i 0) ∷ anchorOf (plainFrom (markupAfter m (getD t i 0)) (part (i + 1) e t))
-  anchor-kept h k p q =
-      ap (λ (s : List ℕ). anchorOf (plainFrom m s)) (part-cons t i e h k)
-      ∙ (ap anchorOf (plain-shown m (getD t i 0) (part (i + 1) e t) p) ∙ anchor-keeps (getD t i 0) (plainFrom (markupAfter m (getD t i 0)) (part (i + 1) e t)) q)
+part-none : (t : List ℕ) (i e : ℕ) → e ≤ i → part i e t ≡ []
+part-none t i e h =
+    let j : e - i ≡ 0 = omega arith in
+    rw j
 
-  other : i < e → e ≤ length t → shows m (getD t i 0) ≡ true → isKept (getD t i 0) ≡ false
-      → let r = anchorOf (plainFrom (markupAfter m (getD t i 0)) (part (i + 1) e t)) in
-      anchorOf (plainFrom m (part i e t)) ≡ cond (eqb (getD t i 0) 0x20) (0x2D ∷ r) r
-  other h k p q =
-      ap (λ (s : List ℕ). anchorOf (plainFrom m s)) (part-cons t i e h k)
-      ∙ (ap anchorOf (plain-shown m (getD t i 0) (part (i + 1) e t) p) ∙ anchor-else (getD t i 0) (plainFrom (markupAfter m (getD t i 0)) (part (i + 1) e t)) q)
+-- what follows a run, and the text without its markup, of a part from place i up to e, by its first byte
+module _ (m : Markup) (t : List ℕ) (i e : ℕ) (h : i < e) (k : e ≤ length t) where
+  pub follows-part : follows m (part i e t) ≡ follows m (getD t i 0 ∷ part (i + 1) e t)
+  follows-part = ap (follows m) (part-cons t i e h k)
 
-  pub anchor-space : i < e → e ≤ length t → shows m (getD t i 0) ≡ true → isKept (getD t i 0) ≡ false → getD t i 0 ≡ 0x20
-      → anchorOf (plainFrom m (part i e t)) ≡ 0x2D ∷ anchorOf (plainFrom (markupAfter m (getD t i 0)) (part (i + 1) e t))
-  anchor-space h k p q r = other h k p q ∙ rw (eq-eqb (getD t i 0) 0x20 r)
+  pub follows-cut : stands m (getD t i 0) ≡ false → follows m (part i e t) ≡ follows (markupAfter m (getD t i 0)) (part (i + 1) e t)
+  follows-cut p = follows-part ∙ (follows-cons m (getD t i 0) (part (i + 1) e t) ∙ rw p)
 
-  pub anchor-other : i < e → e ≤ length t → shows m (getD t i 0) ≡ true → isKept (getD t i 0) ≡ false → (getD t i 0 ≡ 0x20 → ⊥)
-      → anchorOf (plainFrom m (part i e t)) ≡ anchorOf (plainFrom (markupAfter m (getD t i 0)) (part (i + 1) e t))
-  anchor-other h k p q r = other h k p q ∙ rw (ne-eqb (getD t i 0) 0x20 r)
+  pub follows-run : getD t i 0 ≡ 0x5F → follows m (part i e t) ≡ follows (markupAfter m (getD t i 0)) (part (i + 1) e t)
+  follows-run q = follows-part ∙ (follows-cons m (getD t i 0) (part (i + 1) e t) ∙ rw (eq-eqb (getD t i 0) 0x5F q) (go (stands m (getD t i 0))))
+    where
+      go : (b : Bool) → cond b (follows (markupAfter m (getD t i 0)) (part (i + 1) e t)) (follows (markupAfter m (getD t i 0)) (part (i + 1) e t))
+          ≡ follows (markupAfter m (getD t i 0)) (part (i + 1) e t)
+      go true = refl
+      go false = refl
 
-  pub anchor-hidden : i < e → e ≤ length t → shows m (getD t i 0) ≡ false
-      → anchorOf (plainFrom m (part i e t)) ≡ anchorOf (plainFrom (markupAfter m (getD t i 0)) (part (i + 1) e t))
-  anchor-hidden h k p =
-      ap (λ (s : List ℕ). anchorOf (plainFrom m s)) (part-cons t i e h k)
-      ∙ ap anchorOf (plain-hidden m (getD t i 0) (part (i + 1) e t) p)
+  pub follows-here : stands m (getD t i 0) ≡ true → (getD t i 0 ≡ 0x5F → ⊥) → follows m (part i e t) ≡ isWord (getD t i 0)
+  follows-here p q = follows-part ∙ (follows-cons m (getD t i 0) (part (i + 1) e t) ∙ rw (p, ne-eqb (getD t i 0) 0x5F q))
 
-  pub anchor-end : e ≤ i → anchorOf (plainFrom m (part i e t)) ≡ []
-  unfolding anchorOf plainFrom
-  anchor-end h =
-      let j : e - i ≡ 0 = omega arith in
-      rw j
+  plain-part : (w : Bool) → plainIn w m (part i e t) ≡ plainIn w m (getD t i 0 ∷ part (i + 1) e t)
+  plain-part w = ap (plainIn w m) (part-cons t i e h k)
+
+  pub plain-cut : (w : Bool) → stands m (getD t i 0) ≡ false → plainIn w m (part i e t) ≡ plainIn w (markupAfter m (getD t i 0)) (part (i + 1) e t)
+  plain-cut w p = plain-part w ∙ (plain-cons w m (getD t i 0) (part (i + 1) e t) ∙ rw p)
+
+  pub plain-run : (w : Bool) → stands m (getD t i 0) ≡ true → getD t i 0 ≡ 0x5F
+      → let rest = plainIn w (markupAfter m (getD t i 0)) (part (i + 1) e t) in
+      plainIn w m (part i e t)
+      ≡ cond (isLinked m || (w && follows (markupAfter m (getD t i 0)) (part (i + 1) e t))) (getD t i 0 ∷ rest) rest
+  plain-run w p q = plain-part w ∙ (plain-cons w m (getD t i 0) (part (i + 1) e t) ∙ rw (p, eq-eqb (getD t i 0) 0x5F q) (go (isLinked m) (eqb (getD t i 0) 0x60) (eqb (getD t i 0) 0x2A)))
+    where
+      rest : List ℕ
+      rest = plainIn w (markupAfter m (getD t i 0)) (part (i + 1) e t)
+
+      f : Bool
+      f = follows (markupAfter m (getD t i 0)) (part (i + 1) e t)
+
+      go : (b y z : Bool) → cond ((b || not (y || (z || true))) || (w && f)) (getD t i 0 ∷ rest) rest ≡ cond (b || (w && f)) (getD t i 0 ∷ rest) rest
+      go true y z = refl
+      go false true z = refl
+      go false false true = refl
+      go false false false = refl
+
+  pub plain-other : (w : Bool) → stands m (getD t i 0) ≡ true → (getD t i 0 ≡ 0x5F → ⊥)
+      → let rest = plainIn (isWord (getD t i 0)) (markupAfter m (getD t i 0)) (part (i + 1) e t) in
+      plainIn w m (part i e t) ≡ cond (isLinked m || not (isMark (getD t i 0))) (getD t i 0 ∷ rest) rest
+  plain-other w p q = plain-part w ∙ (plain-cons w m (getD t i 0) (part (i + 1) e t) ∙ rw (p, ne-eqb (getD t i 0) 0x5F q, or-false (isLinked m || not (eqb (getD t i 0) 0x60 || (eqb (getD t i 0) 0x2A || false)))))
+
+pub follows-end : (m : Markup) (t : List ℕ) (i e : ℕ) → e ≤ i → follows m (part i e t) ≡ false
+follows-end m t i e h = ap (follows m) (part-none t i e h) ∙ follows-nil m
+
+pub plain-none : (w : Bool) (m : Markup) (t : List ℕ) (i e : ℕ) → e ≤ i → plainIn w m (part i e t) ≡ []
+plain-none w m t i e h = ap (plainIn w m) (part-none t i e h) ∙ plain-nil w m
+
+-- what a byte that is shown or not adds to an anchor
+module _ (x : ℕ) (s : List ℕ) where
+  pub anchor-kept : isKept x ≡ true → anchorOf (x ∷ s) ≡ lower x ∷ anchorOf s
+  unfolding anchorOf
+  anchor-kept e = ap (λ (b : Bool). cond b (lower x ∷ anchorOf s) (cond (eqb x 0x20) (0x2D ∷ anchorOf s) (anchorOf s))) e
+
+  anchor-else : isKept x ≡ false → anchorOf (x ∷ s) ≡ cond (eqb x 0x20) (0x2D ∷ anchorOf s) (anchorOf s)
+  unfolding anchorOf
+  anchor-else e = ap (λ (b : Bool). cond b (lower x ∷ anchorOf s) (cond (eqb x 0x20) (0x2D ∷ anchorOf s) (anchorOf s))) e
+
+  pub anchor-space : isKept x ≡ false → x ≡ 0x20 → anchorOf (x ∷ s) ≡ 0x2D ∷ anchorOf s
+  anchor-space e r = anchor-else e ∙ rw (eq-eqb x 0x20 r)
+
+  pub anchor-other : isKept x ≡ false → (x ≡ 0x20 → ⊥) → anchorOf (x ∷ s) ≡ anchorOf s
+  anchor-other e r = anchor-else e ∙ rw (ne-eqb x 0x20 r)
+
+pub anchor-nil : anchorOf [] ≡ []
+unfolding anchorOf
+anchor-nil = refl
 
 pub equals-on : (x y : ℕ) (a b : List ℕ) → x ≡ y → equals (x ∷ a) (y ∷ b) ≡ equals a b
 unfolding equals startsWith

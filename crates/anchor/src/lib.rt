@@ -1,10 +1,12 @@
 // Anchors: the bytes of a heading text's anchor one after the other, without a buffer.
+ghost use mathlib.Core.Bool.{true, false, cond, _&&_};
 ghost use mathlib.Core.List.{List, _∷_};
 ghost use mathlib.Core.Path.{_≡_};
 ghost use Prim.Native.Nat.{ℕ, _≤_, _<_};
 ghost use lib.ListN.{length};
+ghost use Rattle.text.specs.Bytes.{part};
 ghost use Rattle.text.specs.Pattern.{equals as equalsTo};
-ghost use Rattle.anchor.specs.Anchor.{shows as showsIn, markupAfter, isMark, isKept, slug, anchorFrom, CursorWithin, NextByte, plainEnd, plainFrom, anchorOf, stirred, numberFrom, anchorNumber};
+ghost use Rattle.anchor.specs.Anchor.{stands as standsIn, isLinked, markupAfter, isMark, isSeen, isWord, isKept, cutFrom, cutLeft, plainFrom, wordFollows, isRun, isBehindWord, RunStays, slug, anchorFrom, CursorWithin, ReadByte, NextByte, plainEnd, anchorOf, stirred, numberFrom, anchorNumber};
 use text::ascii;
 use text::space;
 
@@ -20,16 +22,33 @@ pub enum Markup {
     Target,
 }
 
-// What is left of an anchor: from a place up to another, the first byte standing in this markup.
+// What stands directly before a byte once links are cut to their text.
+pub enum Before {
+    // A letter or digit.
+    Word,
+    // A run of underscores that stays.
+    Run,
+    // Anything else, or nothing.
+    Other,
+}
+
+// What is left of an anchor: from a place up to another, the first byte standing in this markup and behind this.
 pub struct AnchorCursor {
     pub at: usize,
     pub end: usize,
     pub markup: Markup,
+    pub before: Before,
 }
 
 pub enum AnchorByte {
     Byte(u8, AnchorCursor),
     End,
+}
+
+// A byte of the text that was read: whether it is text and no markup, and what is left.
+struct TextByte {
+    shown: bool,
+    rest: AnchorCursor,
 }
 
 fn is_mark(b: u8) -> bool
@@ -38,14 +57,26 @@ fn is_mark(b: u8) -> bool
     (b == b'`') | ((b == b'*') | (b == b'_'))
 }
 
-// Whether a byte is text and no markup.
-fn shows(markup: Markup, b: u8) -> bool
-    ensures { λ r. ⌜ r ≡ showsIn markup b ⌝ }
+// Whether a byte stands once links are cut to their text.
+fn stands(markup: Markup, b: u8) -> bool
+    ensures { λ r. ⌜ r ≡ standsIn markup b ⌝ }
 {
     match markup {
-        Markup::Written => !((b == b'[') | is_mark(b)),
+        Markup::Written => !(b == b'['),
         Markup::Bracket => !(b == b']'),
-        Markup::Behind => !((b == b'(') | ((b == b'[') | is_mark(b))),
+        Markup::Behind => !((b == b'(') | (b == b'[')),
+        Markup::Target => false,
+    }
+}
+
+// Whether a byte stands in the text of a link.
+fn is_linked(markup: Markup) -> bool
+    ensures { λ r. ⌜ r ≡ isLinked markup ⌝ }
+{
+    match markup {
+        Markup::Written => false,
+        Markup::Bracket => true,
+        Markup::Behind => false,
         Markup::Target => false,
     }
 }
@@ -85,12 +116,26 @@ fn markup_after(markup: Markup, b: u8) -> Markup
     }
 }
 
+// Whether a byte is a letter or digit.
+fn is_word(b: u8) -> bool
+    ensures { λ r. ⌜ r ≡ isWord b ⌝ }
+{
+    let x = ascii::lower(b);
+    ((0x61 <= x) & (x <= 0x7A)) | ((0x30 <= b) & (b <= 0x39))
+}
+
 // Whether an anchor keeps a byte, in lower case.
 fn is_kept(b: u8) -> bool
     ensures { λ r. ⌜ r ≡ isKept b ⌝ }
 {
-    let x = ascii::lower(b);
-    ((0x61 <= x) & (x <= 0x7A)) | ((0x30 <= b) & (b <= 0x39)) | ((b == b'-') | (b == b'_'))
+    is_word(b) | ((b == b'-') | (b == b'_'))
+}
+
+// Whether a byte is text and no space byte. An underscore that stays never stands at an end of the text.
+fn is_seen(markup: Markup, b: u8) -> bool
+    ensures { λ r. ⌜ r ≡ isSeen markup b ⌝ }
+{
+    (stands(markup, b) & (is_linked(markup) | !is_mark(b))) & !space::is_space(b)
 }
 
 // Where the trimmed text ends: after the last byte that is text and no space byte.
@@ -102,10 +147,8 @@ fn text_end(text: &[u8]) -> usize
     let mut i = 0;
     while i < text.len() {
         let b = text[i];
-        if shows(markup, b) {
-            if !space::is_space(b) {
-                end = i + 1;
-            }
+        if is_seen(markup, b) {
+            end = i + 1;
         }
         markup = markup_after(markup, b);
         i += 1;
@@ -123,15 +166,130 @@ pub fn start(text: &[u8]) -> AnchorCursor
     let mut i = 0;
     while i < end {
         let b = text[i];
-        if shows(markup, b) {
-            if !space::is_space(b) {
-                return AnchorCursor { at: i, end, markup };
+        if is_seen(markup, b) {
+            return AnchorCursor {
+                at: i,
+                end,
+                markup,
+                before: Before::Other,
+            };
+        }
+        markup = markup_after(markup, b);
+        i += 1;
+    }
+    AnchorCursor {
+        at: i,
+        end,
+        markup,
+        before: Before::Other,
+    }
+}
+
+// Whether a letter or digit stands directly after a run of underscores, of which this is left.
+fn word_follows(text: &[u8], from: AnchorCursor) -> bool
+    requires { ⌜ (from .at ≤ from .end) × (from .end ≤ length (now text)) ⌝ }
+    ensures { λ r. ⌜ r ≡ wordFollows (cutLeft from (now (text .entry))) ⌝ }
+{
+    let end = from.end;
+    let mut markup = from.markup;
+    let mut i = from.at;
+    while i < end {
+        let b = text[i];
+        if stands(markup, b) {
+            if b != b'_' {
+                return is_word(b);
             }
         }
         markup = markup_after(markup, b);
         i += 1;
     }
-    AnchorCursor { at: i, end, markup }
+    false
+}
+
+// What stands before a cursor that is behind an underscore, before which stands what the cursor says. Whether a run stays is looked for once, at its first underscore.
+fn behind_underscore(text: &[u8], from: AnchorCursor) -> Before
+    requires { ⌜ CursorWithin from (now text) ⌝ }
+    ensures { λ r. ⌜ isRun r ≡ (isBehindWord (from .before) && wordFollows (cutLeft from (now (text .entry)))) ⌝ }
+    ensures { λ r. ⌜ plainFrom (isBehindWord r) (cutLeft from (now (text .entry))) ≡ plainFrom (isBehindWord (from .before)) (cutLeft from (now (text .entry))) ⌝ }
+    ensures { λ r. ⌜ RunStays r (cutLeft from (now (text .entry))) ⌝ }
+{
+    let before = from.before;
+    match before {
+        Before::Word => {
+            if word_follows(text, from) {
+                return Before::Run;
+            }
+            Before::Other
+        }
+        Before::Run => Before::Run,
+        Before::Other => Before::Other,
+    }
+}
+
+fn is_run(before: Before) -> bool
+    ensures { λ r. ⌜ r ≡ isRun before ⌝ }
+{
+    match before {
+        Before::Word => false,
+        Before::Run => true,
+        Before::Other => false,
+    }
+}
+
+// What stands before a byte that follows b, which is no underscore.
+fn behind_byte(b: u8) -> Before
+    ensures { λ r. ⌜ (isBehindWord r ≡ isWord b) × (isRun r ≡ false) ⌝ }
+{
+    if is_word(b) {
+        return Before::Word;
+    }
+    Before::Other
+}
+
+// Reads the byte at a cursor.
+fn read(text: &[u8], from: AnchorCursor) -> TextByte
+    requires { ⌜ CursorWithin from (now text) × (from .at < from .end) ⌝ }
+    ensures { λ r. ⌜ ReadByte (now (text .entry)) from r ⌝ }
+{
+    let i = from.at;
+    let b = text[i];
+    let at = i + 1;
+    let end = from.end;
+    let here = from.markup;
+    let before = from.before;
+    let markup = markup_after(here, b);
+    let rest = AnchorCursor {
+        at,
+        end,
+        markup,
+        before,
+    };
+    if !stands(here, b) {
+        return TextByte { shown: false, rest };
+    }
+    let linked = is_linked(here);
+    if b == b'_' {
+        let before = behind_underscore(text, rest);
+        return TextByte {
+            shown: linked | is_run(before),
+            rest: AnchorCursor {
+                at,
+                end,
+                markup,
+                before,
+            },
+        };
+    }
+    let before = behind_byte(b);
+    TextByte {
+        shown: linked | !is_mark(b),
+        rest: AnchorCursor {
+            at,
+            end,
+            markup,
+            before,
+        },
+    }
 }
 
 // The next byte of an anchor.
@@ -139,20 +297,18 @@ pub fn next(text: &[u8], from: AnchorCursor) -> AnchorByte
     requires { ⌜ CursorWithin from (now text) ⌝ }
     ensures { λ r. ⌜ NextByte (now (text .entry)) from r ⌝ }
 {
-    let end = from.end;
-    let mut markup = from.markup;
-    let mut i = from.at;
-    while i < end {
+    let mut c = from;
+    while c.at < c.end {
+        let i = c.at;
         let b = text[i];
-        let shown = shows(markup, b);
-        markup = markup_after(markup, b);
-        i += 1;
-        if shown {
+        let r = read(text, c);
+        c = r.rest;
+        if r.shown {
             if is_kept(b) {
-                return AnchorByte::Byte(ascii::lower(b), AnchorCursor { at: i, end, markup });
+                return AnchorByte::Byte(ascii::lower(b), c);
             }
             if b == 0x20 {
-                return AnchorByte::Byte(b'-', AnchorCursor { at: i, end, markup });
+                return AnchorByte::Byte(b'-', c);
             }
         }
     }
@@ -201,13 +357,13 @@ fn stir(n: usize, b: u8) -> usize
     (n + b as usize) * 6700417 % 0x100_0000_0000
 }
 
-// The same with a byte of a heading's text that stands in this markup, which adds one byte to the anchor or none.
-fn stir_in(n: usize, markup: Markup, b: u8) -> usize
+// The same with a byte of a heading's text that is shown or not, which adds one byte to the anchor or none.
+fn stir_in(n: usize, shown: bool, b: u8) -> usize
     requires { ⌜ n < 0x100_0000_0000 ⌝ }
-    ensures { λ r. ⌜ ((s : List ℕ) → numberFrom n (anchorOf (plainFrom markup (b ∷ s))) ≡ numberFrom r (anchorOf (plainFrom (markupAfter markup b) s))) ⌝ }
+    ensures { λ r. ⌜ ((s : List ℕ) → numberFrom n (anchorOf (cond shown (b ∷ s) s)) ≡ numberFrom r (anchorOf s)) ⌝ }
     ensures { λ r. ⌜ r < 0x100_0000_0000 ⌝ }
 {
-    if !shows(markup, b) {
+    if !shown {
         return n;
     }
     if is_kept(b) {
@@ -224,16 +380,14 @@ pub fn number_of(text: &[u8]) -> usize
     ensures { λ r. ⌜ r ≡ anchorNumber (slug (now (text .entry))) ⌝ }
     ensures { λ r. ⌜ r < 0x100_0000_0000 ⌝ }
 {
-    let c = start(text);
-    let end = c.end;
-    let mut markup = c.markup;
+    let mut c = start(text);
     let mut n = 0;
-    let mut i = c.at;
-    while i < end {
+    while c.at < c.end {
+        let i = c.at;
         let b = text[i];
-        n = stir_in(n, markup, b);
-        markup = markup_after(markup, b);
-        i += 1;
+        let r = read(text, c);
+        n = stir_in(n, r.shown, b);
+        c = r.rest;
     }
     n
 }

@@ -1,34 +1,27 @@
 -- `anchor::next` meets its contract. The invariant: the bytes passed gave the anchor nothing. Assumes nothing.
 use Prim.Native.Nat.{_-_, _≤_}
-use mathlib.Core.Path.{_≡_, refl, sym, _∙_}
+use mathlib.Core.Path.{_≡_, refl, sym, ap, _∙_}
 use native.Mathlib.Omega.{arith}
 use borrow.Author.Needs.{needs}
-use Rattle.text.specs.Bytes.{part}
-use Rattle.anchor.specs.Anchor.{plainFrom, anchorOf}
-use Rattle.anchor.proofs.AnchorLaws.{anchor-kept, anchor-space, anchor-other, anchor-hidden, anchor-end}
+use Rattle.anchor.specs.Anchor.{anchorOf, anchorFrom, CursorWithin, isBehindWord}
+use Rattle.anchor.proofs.AnchorLaws.{plain-none, anchor-kept, anchor-space, anchor-other, anchor-nil}
 use Rattle.anchor.proofs.next.Statement.{statement}
 use Rattle.anchor.proofs.next.Tie as tie
 
 abbrev Inv-loop : tie.InvT-loop
-Inv-loop text end markup₀ i₀ markup i = (i₀ ≤ i) × ((i ≤ end) × (anchorOf (plainFrom markup₀ (part i₀ end text)) ≡ anchorOf (plainFrom markup (part i end text))))
+Inv-loop text c₀ c = CursorWithin c text × ((c₀ .at ≤ c .at) × (anchorFrom c₀ text ≡ anchorFrom c text))
 
 abbrev μ-loop : tie.MeasureT-loop
-μ-loop text end markup₀ i₀ markup i = end - i
+μ-loop text c₀ c = c .end - c .at
 
 loop-holds : tie.Need-loop-holds Inv-loop μ-loop
-loop-holds c = (omega arith, (omega arith, refl))
+loop-holds c = (c .before .pre, (omega arith, refl))
 
 shared-slice-read-b : tie.Need-shared-slice-read-b Inv-loop μ-loop
-shared-slice-read-b c = omega arith
+shared-slice-read-b c = omega (arith, c .before .before .before .loop .inv .0 .0 .1)
 
-shows-requires : tie.Need-shows-requires Inv-loop μ-loop
-shows-requires c κs = search needs
-
-markup-after-requires : tie.Need-markup-after-requires Inv-loop μ-loop
-markup-after-requires c κs = search needs
-
-add-i : tie.Need-add-i Inv-loop μ-loop
-add-i c = omega arith
+read-requires : tie.Need-read-requires Inv-loop μ-loop
+read-requires c κs = (c .before .before .before .loop .inv .0, omega arith)
 
 is-kept-requires : tie.Need-is-kept-requires Inv-loop μ-loop
 is-kept-requires c κs = search needs
@@ -38,63 +31,48 @@ lower-requires c κs = search needs
 
 returns : tie.Need-returns Inv-loop μ-loop
 returns c =
-    let l = c .before .before .before .before .before .before .before .before .loop in
-    let a = c .before .before .before .before .before .before .before .before .before .before .args in
-    let p = sym (c .before .before .before .before .before .shows .ensures) ∙ c .before .before .before .if1 .taken in
-    let q = sym (c .before .before .is-kept .ensures) ∙ c .before .if2 .taken in (
-      rw (c .before .before .before .before .markup-after .ensures, c .lower .ensures)
-          (l .inv .1 .1 ∙ anchor-kept (l .markup) (a .text .now) (l .i) (a .from .end) (omega arith) (omega arith) p q),
-      (omega arith, (omega arith, omega arith)),
+    let l = c .before .before .before .before .before .before .before .before .before .loop in
+    let r = c .before .before .before .before .before .read .ensures in
+    let p = rw (c .before .before .before .if2 .taken) at (r .0) in (
+      rw (c .lower .ensures) (l .inv .1 .1 ∙ (ap anchorOf p ∙ anchor-kept _ _ (sym (c .before .before .is-kept .ensures) ∙ c .before .if3 .taken))),
+      (omega (arith, l .inv .1 .0, r .1 .0), r .1 .1 .1),
     )
 
 returns-2 : tie.Need-returns-2 Inv-loop μ-loop
 returns-2 c =
-    let l = c .before .before .before .before .before .before .before .before .loop in
-    let a = c .before .before .before .before .before .before .before .before .before .before .args in
-    let p = sym (c .before .before .before .before .before .shows .ensures) ∙ c .before .before .before .if1 .taken in
-    let q = sym (c .before .before .is-kept .ensures) ∙ c .before .if2 .left in (
-      rw (c .before .before .before .before .markup-after .ensures)
-          (l .inv .1 .1 ∙ anchor-space (l .markup) (a .text .now) (l .i) (a .from .end) (omega arith) (omega arith) p q (c .if3 .taken)),
-      (omega arith, (omega arith, omega arith)),
+    let l = c .before .before .before .before .before .before .before .before .before .loop in
+    let r = c .before .before .before .before .before .read .ensures in
+    let p = rw (c .before .before .before .if2 .taken) at (r .0) in (
+      l .inv .1 .1 ∙ (ap anchorOf p ∙ anchor-space _ _ (sym (c .before .before .is-kept .ensures) ∙ c .before .if3 .left) (c .if4 .taken)),
+      (omega (arith, l .inv .1 .0, r .1 .0), r .1 .1 .1),
     )
 
 loop-less : tie.Need-loop-less Inv-loop μ-loop
-loop-less c = omega arith
+loop-less c = let r = c .before .before .before .before .before .read .ensures in omega (arith, r .1 .0, r .1 .1 .0)
 
 loop-again : tie.Need-loop-again Inv-loop μ-loop
 loop-again c =
-    let l = c .before .before .before .before .before .before .before .before .loop in
-    let a = c .before .before .before .before .before .before .before .before .before .before .args in
-    let p = sym (c .before .before .before .before .before .shows .ensures) ∙ c .before .before .before .if1 .taken in
-    let q = sym (c .before .before .is-kept .ensures) ∙ c .before .if2 .left in (
-      omega arith,
-      (
-        omega arith,
-        rw (c .before .before .before .before .markup-after .ensures)
-            (l .inv .1 .1 ∙ anchor-other (l .markup) (a .text .now) (l .i) (a .from .end) (omega arith) (omega arith) p q (c .if3 .left)),
-      ),
+    let l = c .before .before .before .before .before .before .before .before .before .loop in
+    let r = c .before .before .before .before .before .read .ensures in
+    let p = rw (c .before .before .before .if2 .taken) at (r .0) in (
+      r .1 .1 .1,
+      (omega (arith, l .inv .1 .0, r .1 .0), l .inv .1 .1 ∙ (ap anchorOf p ∙ anchor-other _ _ (sym (c .before .before .is-kept .ensures) ∙ c .before .if3 .left) (c .if4 .left))),
     )
 
 loop-less-2 : tie.Need-loop-less-2 Inv-loop μ-loop
-loop-less-2 c = omega arith
+loop-less-2 c = let r = c .before .before .read .ensures in omega (arith, r .1 .0, r .1 .1 .0)
 
 loop-again-2 : tie.Need-loop-again-2 Inv-loop μ-loop
 loop-again-2 c =
-    let l = c .before .before .before .before .before .loop in
-    let a = c .before .before .before .before .before .before .before .args in
-    let p = sym (c .before .before .shows .ensures) ∙ c .if1 .left in (
-      omega arith,
-      (
-        omega arith,
-        rw (c .before .markup-after .ensures) (l .inv .1 .1 ∙ anchor-hidden (l .markup) (a .text .now) (l .i) (a .from .end) (omega arith) (omega arith) p),
-      ),
-    )
+    let l = c .before .before .before .before .before .before .loop in
+    let r = c .before .before .read .ensures in
+    let p = rw (c .if2 .left) at (r .0) in
+    (r .1 .1 .1, (omega (arith, l .inv .1 .0, r .1 .0), l .inv .1 .1 ∙ ap anchorOf p))
 
 returns-3 : tie.Need-returns-3 Inv-loop μ-loop
 returns-3 c =
-    let l = c .before .loop in
-    let a = c .before .before .before .args in
-    l .inv .1 .1 ∙ anchor-end (l .markup) (a .text .now) (l .i) (a .from .end) (omega arith)
+    let l = c .before .before .loop in
+    l .inv .1 .1 ∙ (ap anchorOf (plain-none (isBehindWord (l .c .before)) (l .c .markup) (c .before .before .before .before .args .text .now) (l .c .at) (l .c .end) (omega arith)) ∙ anchor-nil)
 
 pub next-spec : {M : Type 1} → statement M
 next-spec =
@@ -104,9 +82,7 @@ next-spec =
     μ-loop
     loop-holds
     shared-slice-read-b
-    shows-requires
-    markup-after-requires
-    add-i
+    read-requires
     is-kept-requires
     lower-requires
     returns

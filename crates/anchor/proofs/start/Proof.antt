@@ -1,20 +1,18 @@
 -- `anchor::start` meets its contract. The invariant: no byte passed is seen, so what is left has the same trimmed text and the same end. Assumes nothing.
 use Prim.Native.Nat.{_-_, _≤_}
 use mathlib.Core.Path.{_≡_, refl, sym, ap, _∙_}
-use mathlib.Core.Bool.{false}
-use mathlib.Core.Logic.{⊎-elim}
-use lib.ListN.{length, drop, getD}
+use mathlib.Core.Bool.{false, false≢true}
+use lib.ListN.{length, drop}
 use native.Mathlib.Omega.{arith}
 use borrow.Author.Needs.{needs}
-use borrow.Author.Tests.{not-true}
 use Rattle.text.specs.Space.{trim}
-use Rattle.anchor.specs.Anchor.{plainFrom, plain, plainEndFrom, anchorOf, slug}
-use Rattle.anchor.proofs.AnchorLaws.{seen, seen-shown, seen-hidden, end-on, start-on, start-here, start-nowhere}
+use Rattle.anchor.specs.Anchor.{plain, plainEndFrom, anchorOf, slug, isRun, isBehindWord}
+use Rattle.anchor.proofs.AnchorLaws.{plainIn, end-on, start-on, start-here, start-nowhere}
 use Rattle.anchor.proofs.start.Statement.{statement}
 use Rattle.anchor.proofs.start.Tie as tie
 
 abbrev Inv-loop : tie.InvT-loop
-Inv-loop text end markup₀ i₀ markup i = (i ≤ end) × ((end ≤ length text) × ((plainEndFrom markup 0 i (drop i text) ≡ end) × (trim (plainFrom markup (drop i text)) ≡ trim (plain text))))
+Inv-loop text end markup₀ i₀ markup i = (i ≤ end) × ((end ≤ length text) × ((plainEndFrom markup 0 i (drop i text) ≡ end) × (trim (plainIn false markup (drop i text)) ≡ trim (plain text))))
 
 abbrev μ-loop : tie.MeasureT-loop
 μ-loop text end markup₀ i₀ markup i = end - i
@@ -28,20 +26,16 @@ loop-holds c = (omega arith, (c .text-end .ensures .1, (sym (c .text-end .ensure
 shared-slice-read-b : tie.Need-shared-slice-read-b Inv-loop μ-loop
 shared-slice-read-b c = omega arith
 
-shows-requires : tie.Need-shows-requires Inv-loop μ-loop
-shows-requires c κs = search needs
-
-is-space-requires : tie.Need-is-space-requires Inv-loop μ-loop
-is-space-requires c κs = search needs
+is-seen-requires : tie.Need-is-seen-requires Inv-loop μ-loop
+is-seen-requires c κs = search needs
 
 returns : tie.Need-returns Inv-loop μ-loop
-unfolding slug
+unfolding slug isRun isBehindWord
 returns c =
-    let l = c .before .before .before .before .before .before .loop in
-    let s = c .before .before .before .before .before .before .before .before .before .args .text .now in
-    let p = sym (c .before .before .before .shows .ensures) ∙ c .before .before .if1 .taken in
-    let q = sym (c .before .is-space .ensures) ∙ not-true _ (c .if2 .taken) in
-    (ap anchorOf (start-here (l .markup) s (l .i) (c .before .before .before .before .before .before .before .text-end .result) (omega arith) p q (l .inv .1 .1 .0) ∙ l .inv .1 .1 .1), (omega arith, omega arith))
+    let l = c .before .before .before .before .loop in
+    let s = c .before .before .before .before .before .before .before .args .text .now in
+    let p = sym (c .before .is-seen .ensures) ∙ c .if1 .taken in
+    (ap anchorOf (start-here (l .markup) s (l .i) (c .before .before .before .before .before .text-end .result) (omega arith) p (l .inv .1 .1 .0) ∙ l .inv .1 .1 .1), ((omega arith, omega arith), λ h. absurd (false≢true h)))
 
 markup-after-requires : tie.Need-markup-after-requires Inv-loop μ-loop
 markup-after-requires c κs = search needs
@@ -56,10 +50,7 @@ loop-again : tie.Need-loop-again Inv-loop μ-loop
 loop-again c =
     let l = c .before .before .before .before .before .loop in
     let s = c .before .before .before .before .before .before .before .before .args .text .now in
-    let x = getD s (l .i) 0 in
-    let h = c .before .before .shows .ensures in
-    let q : seen (l .markup) x ≡ false =
-    ⊎-elim (λ w. seen-shown (l .markup) x h (w .1 .ensures) (w .0 .taken) (w .2 .left)) (λ w. seen-hidden (l .markup) x h (w .left)) (c .before .if1 .came) in (
+    let q = sym (c .before .before .is-seen .ensures) ∙ c .before .if1 .left in (
       omega arith,
       (
         omega arith,
@@ -71,11 +62,11 @@ loop-again c =
     )
 
 returns-2 : tie.Need-returns-2 Inv-loop μ-loop
-unfolding slug
+unfolding slug isRun isBehindWord
 returns-2 c =
     let l = c .before .loop in
     let s = c .before .before .before .before .args .text .now in
-    (ap anchorOf (start-nowhere (l .markup) s (l .i) (c .before .before .text-end .result) (omega arith) (l .inv .1 .1 .0) ∙ l .inv .1 .1 .1), (omega arith, omega arith))
+    (ap anchorOf (start-nowhere (l .markup) s (l .i) (c .before .before .text-end .result) (omega arith) (l .inv .1 .1 .0) ∙ l .inv .1 .1 .1), ((omega arith, omega arith), λ h. absurd (false≢true h)))
 
 pub start-spec : {M : Type 1} → statement M
 start-spec =
@@ -86,8 +77,7 @@ start-spec =
     text-end-requires
     loop-holds
     shared-slice-read-b
-    shows-requires
-    is-space-requires
+    is-seen-requires
     returns
     markup-after-requires
     add-i
