@@ -17,7 +17,7 @@ use Rattle.text.specs.Pattern.{startsWith, equals}
 use Rattle.text.proofs.BytesLaws.{or-left, or-right, after-none}
 use Rattle.text.proofs.PatternLaws.{and-left, and-right}
 use Rattle.text.specs.Ascii.{lower}
-use Rattle.anchor.specs.Anchor.{markupAfter, stands, isLinked, Cut, placed, cutFrom, isMark, isWord, wordFollows, wordBehind, stays, shows, plainFrom, isKept, anchorOf, isShown, wordAfter, isSeen, plainEndFrom, stirred, numberFrom}
+use Rattle.anchor.specs.Anchor.{markupAfter, stands, isLinked, Cut, cutByte, cutFrom, isMark, isWord, wordFollows, wordBehind, stays, shows, plainFrom, isKept, anchorOf, isShown, wordAfter, isSeen, plainEndFrom, stirred, numberFrom}
 use Rattle.anchor.specs.declared.Markup.{Markup}
 
 -- trimming, by the first byte
@@ -85,8 +85,8 @@ pub plain-cons : (w : Bool) (m : Markup) (x : ℕ) (s : List ℕ)
 unfolding cutFrom plainFrom
 plain-cons w m x s = go (stands m x)
   where
-    go : (b : Bool) → plainFrom w (cond b (placed m x ∷ cutFrom (markupAfter m x) s) (cutFrom (markupAfter m x) s))
-        ≡ cond (b && (shows (placed m x) || stays w x (cutFrom (markupAfter m x) s)))
+    go : (b : Bool) → plainFrom w (cond b (cutByte m x ∷ cutFrom (markupAfter m x) s) (cutFrom (markupAfter m x) s))
+        ≡ cond (b && (shows (cutByte m x) || stays w x (cutFrom (markupAfter m x) s)))
         (x ∷ plainIn (cond b (wordBehind w x) w) (markupAfter m x) s)
         (plainIn (cond b (wordBehind w x) w) (markupAfter m x) s)
     go true = refl
@@ -97,7 +97,7 @@ pub follows-cons : (m : Markup) (x : ℕ) (s : List ℕ)
 unfolding cutFrom wordFollows
 follows-cons m x s = go (stands m x)
   where
-    go : (b : Bool) → wordFollows (cond b (placed m x ∷ cutFrom (markupAfter m x) s) (cutFrom (markupAfter m x) s))
+    go : (b : Bool) → wordFollows (cond b (cutByte m x ∷ cutFrom (markupAfter m x) s) (cutFrom (markupAfter m x) s))
         ≡ cond b (cond (eqb x 0x5F) (follows (markupAfter m x) s) (isWord x)) (follows (markupAfter m x) s)
     go true = refl
     go false = refl
@@ -195,7 +195,7 @@ unfolding any anySeen
 any-plain w m [] = rw (plain-nil w m)
 any-plain w m (x ∷ s) =
     ap (any isOther) (plain-cons w m x s)
-    ∙ go (stands m x) (shows (placed m x)) (anySeen (markupAfter m x) s) refl (any-plain (wordAfter w m x) (markupAfter m x) s)
+    ∙ go (stands m x) (shows (cutByte m x)) (anySeen (markupAfter m x) s) refl (any-plain (wordAfter w m x) (markupAfter m x) s)
   where
     rest : List ℕ
     rest = plainIn (wordAfter w m x) (markupAfter m x) s
@@ -273,7 +273,7 @@ pub plain-hidden : (w : Bool) (m : Markup) (x : ℕ) (s : List ℕ) → isShown 
 plain-hidden w m x s e = plain-cons w m x s ∙ ap (λ (b : Bool). cond b (x ∷ plainIn (wordAfter w m x) (markupAfter m x) s) (plainIn (wordAfter w m x) (markupAfter m x) s)) e
 
 seen-shown : (w : Bool) (m : Markup) (x : ℕ) (s : List ℕ) → isSeen m x ≡ true → isShown w m x s ≡ true
-seen-shown w m x s h = go (stands m x) (shows (placed m x)) h
+seen-shown w m x s h = go (stands m x) (shows (cutByte m x)) h
   where
     go : (a b : Bool) → ((a && b) && not (isSpace x)) ≡ true → (a && (b || stays w x (cutFrom (markupAfter m x) s))) ≡ true
     go true true e = refl
@@ -282,7 +282,7 @@ seen-shown w m x s h = go (stands m x) (shows (placed m x)) h
 
 -- what is shown and not seen is a space byte, where nothing is seen behind it or no letter or digit stands before it
 shown-space : (w : Bool) (m : Markup) (x : ℕ) (s : List ℕ) → isSeen m x ≡ false → stays w x (cutFrom (markupAfter m x) s) ≡ false → isShown w m x s ≡ true → isSpace x ≡ true
-shown-space w m x s h k e = go (stands m x) (shows (placed m x)) h (rw k at e)
+shown-space w m x s h k e = go (stands m x) (shows (cutByte m x)) h (rw k at e)
   where
     go : (a b : Bool) → ((a && b) && not (isSpace x)) ≡ false → (a && (b || false)) ≡ true → isSpace x ≡ true
     go true true p q = not-false (isSpace x) p
@@ -311,7 +311,7 @@ plain-take w m (x ∷ s) =
     go false true b p q r ih =
         plain-shown w m x [] (seen-shown w m x [] q)
         ∙ (ap (λ (t : List ℕ). x ∷ t) (plain-nil (wordAfter w m x) (markupAfter m x))
-        ∙ sym (ap trimEnd (plain-shown w m x s (seen-shown w m x s q)) ∙ (trimEnd-cons x rest ∙ rw (any-plain (wordAfter w m x) (markupAfter m x) s ∙ p, and-right (stands m x && shows (placed m x)) _ q))))
+        ∙ sym (ap trimEnd (plain-shown w m x s (seen-shown w m x s q)) ∙ (trimEnd-cons x rest ∙ rw (any-plain (wordAfter w m x) (markupAfter m x) s ∙ p, and-right (stands m x && shows (cutByte m x)) _ q))))
     go false false true p q r ih =
         plain-nil w m
         ∙ sym (ap trimEnd (plain-shown w m x s r) ∙ (trimEnd-cons x rest ∙ rw (any-plain (wordAfter w m x) (markupAfter m x) s ∙ p, shown-space w m x s q (stays-seen w (markupAfter m x) x s p) r)))
@@ -327,7 +327,7 @@ seen-first w m x s n e q h =
     let k : e ≡ n + endOf m (x ∷ s) = sym h ∙ (plain-end m 0 n (x ∷ s) ∙ ap (λ (b : Bool). cond b (n + endOf m (x ∷ s)) 0) a) in
     let j : e - n ≡ endOf m (x ∷ s) = omega arith in
     let p = plain-shown w m x s (seen-shown w m x s q) in
-    let o = trim-other x (plainIn (wordAfter w m x) (markupAfter m x) s) (not-true (isSpace x) (and-right (stands m x && shows (placed m x)) _ q)) in
+    let o = trim-other x (plainIn (wordAfter w m x) (markupAfter m x) s) (not-true (isSpace x) (and-right (stands m x && shows (cutByte m x)) _ q)) in
     ap (λ (d : ℕ). plainIn w m (take d (x ∷ s))) j ∙ (plain-take w m (x ∷ s) ∙ (ap trimEnd p ∙ sym (ap trim p ∙ o)))
 
 -- no seen byte is left
@@ -398,19 +398,24 @@ module _ (m : Markup) (t : List ℕ) (i e : ℕ) (h : i < e) (k : e ≤ length t
   pub follows-part : follows m (part i e t) ≡ follows m (getD t i 0 ∷ part (i + 1) e t)
   follows-part = ap (follows m) (part-cons t i e h k)
 
+  pub follows-past : (stands m (getD t i 0) && not (eqb (getD t i 0) 0x5F)) ≡ false → follows m (part i e t) ≡ follows (markupAfter m (getD t i 0)) (part (i + 1) e t)
+  follows-past p = follows-part ∙ (follows-cons m (getD t i 0) (part (i + 1) e t) ∙ go (stands m (getD t i 0)) (eqb (getD t i 0) 0x5F) p)
+    where
+      go : (a b : Bool) → (a && not b) ≡ false
+          → cond a (cond b (follows (markupAfter m (getD t i 0)) (part (i + 1) e t)) (isWord (getD t i 0))) (follows (markupAfter m (getD t i 0)) (part (i + 1) e t))
+          ≡ follows (markupAfter m (getD t i 0)) (part (i + 1) e t)
+      go true true h = refl
+      go true false h = absurd (false≢true (sym h))
+      go false b h = refl
+
   pub follows-cut : stands m (getD t i 0) ≡ false → follows m (part i e t) ≡ follows (markupAfter m (getD t i 0)) (part (i + 1) e t)
-  follows-cut p = follows-part ∙ (follows-cons m (getD t i 0) (part (i + 1) e t) ∙ rw p)
+  follows-cut p = follows-past (rw p)
 
   pub follows-run : getD t i 0 ≡ 0x5F → follows m (part i e t) ≡ follows (markupAfter m (getD t i 0)) (part (i + 1) e t)
-  follows-run q = follows-part ∙ (follows-cons m (getD t i 0) (part (i + 1) e t) ∙ rw (eq-eqb (getD t i 0) 0x5F q) (go (stands m (getD t i 0))))
-    where
-      go : (b : Bool) → cond b (follows (markupAfter m (getD t i 0)) (part (i + 1) e t)) (follows (markupAfter m (getD t i 0)) (part (i + 1) e t))
-          ≡ follows (markupAfter m (getD t i 0)) (part (i + 1) e t)
-      go true = refl
-      go false = refl
+  follows-run q = follows-past (rw (eq-eqb (getD t i 0) 0x5F q) (and-false (stands m (getD t i 0))))
 
-  pub follows-here : stands m (getD t i 0) ≡ true → (getD t i 0 ≡ 0x5F → ⊥) → follows m (part i e t) ≡ isWord (getD t i 0)
-  follows-here p q = follows-part ∙ (follows-cons m (getD t i 0) (part (i + 1) e t) ∙ rw (p, ne-eqb (getD t i 0) 0x5F q))
+  pub follows-here : (stands m (getD t i 0) && not (eqb (getD t i 0) 0x5F)) ≡ true → follows m (part i e t) ≡ isWord (getD t i 0)
+  follows-here p = follows-part ∙ (follows-cons m (getD t i 0) (part (i + 1) e t) ∙ rw (and-left (stands m (getD t i 0)) _ p, not-true (eqb (getD t i 0) 0x5F) (and-right (stands m (getD t i 0)) _ p)))
 
   plain-part : (w : Bool) → plainIn w m (part i e t) ≡ plainIn w m (getD t i 0 ∷ part (i + 1) e t)
   plain-part w = ap (plainIn w m) (part-cons t i e h k)

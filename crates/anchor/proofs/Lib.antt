@@ -1,2 +1,3 @@
 pub mod AnchorLaws
 pub mod Checks
+pub mod RunTheorem

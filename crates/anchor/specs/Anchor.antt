@@ -44,12 +44,12 @@ pub record Cut : Type 0 where
   pub byte : ℕ
   pub linked : Bool
 
-abbrev pub placed : Markup → ℕ → Cut
-placed m x = record { byte = x; linked = isLinked m }
+abbrev pub cutByte : Markup → ℕ → Cut
+cutByte m x = record { byte = x; linked = isLinked m }
 
 unfoldable pub cutFrom : Markup → List ℕ → List Cut
 cutFrom m [] = []
-cutFrom m (x ∷ s) = cond (stands m x) (placed m x ∷ cutFrom (markupAfter m x) s) (cutFrom (markupAfter m x) s)
+cutFrom m (x ∷ s) = cond (stands m x) (cutByte m x ∷ cutFrom (markupAfter m x) s) (cutFrom (markupAfter m x) s)
 
 abbrev pub cut : List ℕ → List Cut
 cut t = cutFrom Written t
@@ -104,7 +104,7 @@ slug t = anchorOf (trim (plain t))
 
 -- By the bytes of a text whose links are not cut: whether one is left without the markup, and whether a letter or digit stands directly before the next
 abbrev pub isShown : Bool → Markup → ℕ → List ℕ → Bool
-isShown before m x s = stands m x && (shows (placed m x) || stays before x (cutFrom (markupAfter m x) s))
+isShown before m x s = stands m x && (shows (cutByte m x) || stays before x (cutFrom (markupAfter m x) s))
 
 abbrev pub wordAfter : Bool → Markup → ℕ → Bool
 wordAfter before m x = cond (stands m x) (wordBehind before x) before
@@ -150,7 +150,7 @@ NextByte t c End = anchorFrom c t ≡ []
 
 -- whether a byte is text and no space byte; an underscore that stays never stands at an end of the text
 abbrev pub isSeen : Markup → ℕ → Bool
-isSeen m x = (stands m x && shows (placed m x)) && not (isSpace x)
+isSeen m x = (stands m x && shows (cutByte m x)) && not (isSpace x)
 
 -- the place after the last byte of t that is text and no space byte, n bytes standing before t
 unfoldable pub plainEndFrom : Markup → ℕ → ℕ → List ℕ → ℕ

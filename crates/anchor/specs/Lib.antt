@@ -1,1 +1,2 @@
 pub mod Anchor
+pub mod Runs

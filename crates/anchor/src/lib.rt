@@ -195,10 +195,8 @@ fn word_follows(text: &[u8], from: AnchorCursor) -> bool
     let mut i = from.at;
     while i < end {
         let b = text[i];
-        if stands(markup, b) {
-            if b != b'_' {
-                return is_word(b);
-            }
+        if stands(markup, b) & (b != b'_') {
+            return is_word(b);
         }
         markup = markup_after(markup, b);
         i += 1;

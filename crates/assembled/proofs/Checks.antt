@@ -9,7 +9,7 @@ use Rattle.text.specs.Bytes.{first, afterLast}
 use Rattle.text.specs.Pattern.{startsWith, endsWith, equals, find}
 use Rattle.text.specs.Space.{isSpace, lead, kept, trimStart, trimEnd, trim, isBlank}
 use Rattle.text.specs.Split.{split, join}
-use Rattle.anchor.specs.Anchor.{shows, markupAfter, plainFrom, anchorOf, slug, plainEndFrom}
+use Rattle.anchor.specs.Anchor.{markupAfter, stands, isLinked, cutFrom, wordFollows, plainFrom, anchorOf, slug, plainEndFrom}
 use Rattle.text.specs.Ascii.{lower}
 use Rattle.heading.specs.Contents.{isLowered, isContents, drops}
 use Rattle.heading.specs.Level.{shallowestOf}
@@ -43,9 +43,9 @@ abbrev pub LaterTitle : Type 0
 LaterTitle = assemblyOf (fileOf 1 (bytes "a") (bytes "# T\n[x](a)") ∷ fileOf 1 (bytes "a") (bytes "# U") ∷ []) ≡ given (bytes "# T\n[x](#u)\n\n---\n\n# U\n") 0
 
 pub checks : Checks
-unfolding first afterLast startsWith endsWith equals find isSpace lead kept trimStart trimEnd trim isBlank split join shows markupAfter plainFrom anchorOf slug plainEndFrom lower isLowered isContents drops shallowestOf hashes textStart textEnd headingOf opener closes opensComment writtenKind commentAfter outsideKind outsideAfter stepKind stepAfter kindsFrom relink relinkOpen relinkTarget step walked resolve targetOf rewriteTarget anchorSelf go judge toldFrom pastFrom upTo prepareAll emitAll assemble withoutContents preparedLines titleOf prepare lineOf earlier sharedIn sharedFrom movable titleNamed emit
+unfolding first afterLast startsWith endsWith equals find isSpace lead kept trimStart trimEnd trim isBlank split join markupAfter stands isLinked cutFrom wordFollows plainFrom anchorOf slug plainEndFrom lower isLowered isContents drops shallowestOf hashes textStart textEnd headingOf opener closes opensComment writtenKind commentAfter outsideKind outsideAfter stepKind stepAfter kindsFrom relink relinkOpen relinkTarget step walked resolve targetOf rewriteTarget anchorSelf go judge toldFrom pastFrom upTo prepareAll emitAll assemble withoutContents preparedLines titleOf prepare lineOf earlier sharedIn sharedFrom movable titleNamed emit
 checks = (refl, (refl, refl))
 
 pub later-title : LaterTitle
-unfolding first afterLast startsWith endsWith equals find isSpace lead kept trimStart trimEnd trim isBlank split join shows markupAfter plainFrom anchorOf slug plainEndFrom lower isLowered isContents drops shallowestOf hashes textStart textEnd headingOf opener closes opensComment writtenKind commentAfter outsideKind outsideAfter stepKind stepAfter kindsFrom relink relinkOpen relinkTarget step walked resolve targetOf rewriteTarget anchorSelf go judge toldFrom pastFrom upTo prepareAll emitAll assemble withoutContents preparedLines titleOf prepare lineOf earlier sharedIn sharedFrom movable titleNamed emit
+unfolding first afterLast startsWith endsWith equals find isSpace lead kept trimStart trimEnd trim isBlank split join markupAfter stands isLinked cutFrom wordFollows plainFrom anchorOf slug plainEndFrom lower isLowered isContents drops shallowestOf hashes textStart textEnd headingOf opener closes opensComment writtenKind commentAfter outsideKind outsideAfter stepKind stepAfter kindsFrom relink relinkOpen relinkTarget step walked resolve targetOf rewriteTarget anchorSelf go judge toldFrom pastFrom upTo prepareAll emitAll assemble withoutContents preparedLines titleOf prepare lineOf earlier sharedIn sharedFrom movable titleNamed emit
 later-title = refl

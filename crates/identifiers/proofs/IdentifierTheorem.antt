@@ -12,13 +12,14 @@ use Rattle.text.specs.Bytes.{bit, any, first, afterLast}
 use Rattle.text.specs.Ascii.{lower}
 use Rattle.text.specs.Space.{isSpace, isOther, lead, kept, trim, trimStart, trimEnd}
 use Rattle.text.proofs.BytesLaws.{or-left, or-right, after-hit, after-miss, after-le}
-use Rattle.anchor.specs.Anchor.{isMark, isKept, shows, markupAfter, plainFrom, plain, anchorOf, slug}
+use Rattle.anchor.specs.Anchor.{markupAfter, stands, isLinked, cutByte, cutFrom, isMark, wordFollows, stays, shows, plainFrom, plain, isKept, anchorOf, slug, isShown, wordAfter}
+use Rattle.anchor.proofs.AnchorLaws.{plainIn, plain-cons, plain-shown, plain-hidden}
 use Rattle.anchor.specs.declared.Markup.{Markup}
 use Rattle.anchor.specs.declared.Markup.the-variants.{Written, Bracket, Behind, Target}
 use Rattle.commonmark.specs.Headings.{isSpaced}
 use Rattle.text.proofs.PatternLaws.{and-left, and-right}
 use Rattle.commonmark.proofs.BoolLaws.{of-list, second, and-true, or-first, _or_}
-use Rattle.identifiers.specs.Identifiers.{isLeft, identifier, anyFrom, somewhere, underscore, target, markAtEnd, otherSpace, departsAt, departs, SameIdentifier, OtherIdentifier, EachParts, NoneHolds}
+use Rattle.identifiers.specs.Identifiers.{isLeft, identifier, Test, anyFrom, somewhere, underscore, target, markAtEnd, otherSpace, departsAt, departs, SameIdentifier, OtherIdentifier, EachParts, NoneHolds}
 
 -- a text with no space byte at its ends is trimmed already
 last-other : (x : ℕ) (s : List ℕ) → isSpaced (x ∷ s) ≡ false → kept (x ∷ s) ≡ length (x ∷ s)
@@ -34,16 +35,16 @@ trim-none [] h = take-nil (kept [])
 trim-none (x ∷ s) h = rw (or-left (isSpace x) _ h, last-other x s h) (take-length (x ∷ s))
 
 -- what does not hold of a byte that does not depart, one law for each departure
-module _ (m : Markup) (x : ℕ) (d : departsAt m x ≡ false) where
-  no-underscore : shows m x ≡ false → eqb x 0x5F ≡ false
-  no-underscore h = let u : underscore m x ≡ false = search of-list in and-true (eqb x 0x5F) (rw h at u)
+module _ (w : Bool) (m : Markup) (x : ℕ) (t : List ℕ) (d : departsAt w m x t ≡ false) where
+  no-underscore : isShown w m x t ≡ false → eqb x 0x5F ≡ false
+  no-underscore h = let u : underscore w m x t ≡ false = search of-list in and-true (eqb x 0x5F) (rw h at u)
 
-  no-target : target m x ≡ false
+  no-target : target w m x t ≡ false
   no-target = search of-list
 
   no-other-space : isSpace x ≡ eqb x 0x20
   unfolding isSpace
-  no-other-space = let o : otherSpace m x ≡ false = search of-list in go (eqb x 0x20) refl o
+  no-other-space = let o : otherSpace w m x t ≡ false = search of-list in go (eqb x 0x20) refl o
     where
       go : (y : Bool) → eqb x 0x20 ≡ y → (isSpace x && not y) ≡ false → isSpace x ≡ y
       go true e h = rw (eqb-true x 0x20 e)
@@ -53,65 +54,71 @@ module _ (m : Markup) (x : ℕ) (d : departsAt m x ≡ false) where
 sign-removed : (x b : ℕ) → (isLeft b || isSpace b) ≡ false → eqb x b ≡ true → (isLeft x || isSpace x) ≡ false
 sign-removed x b h e = rw (eqb-true x b e) h
 
-mark-removed : (m : Markup) (x : ℕ) → shows m x ≡ false → departsAt m x ≡ false → isMark x ≡ true → (isLeft x || isSpace x) ≡ false
+mark-removed : (x : ℕ) → eqb x 0x5F ≡ false → isMark x ≡ true → (isLeft x || isSpace x) ≡ false
 unfolding isSpace lower
-mark-removed m x s d h = go (eqb x 0x60) (eqb x 0x2A) refl refl
+mark-removed x u h = go (eqb x 0x60) (eqb x 0x2A) refl refl
   where
     go : (y z : Bool) → eqb x 0x60 ≡ y → eqb x 0x2A ≡ z → (isLeft x || isSpace x) ≡ false
     go true z p q = sign-removed x 0x60 refl p
     go false true p q = sign-removed x 0x2A refl q
-    go false false p q = absurd (false≢true (sym (no-underscore m x d s) ∙ (rw (p, q) at h)))
+    go false false p q = absurd (false≢true (sym u ∙ (rw (p, q) at h)))
 
-removed : (m : Markup) (x : ℕ) → shows m x ≡ false → departsAt m x ≡ false → (isLeft x || isSpace x) ≡ false
-unfolding shows isSpace lower
-removed Written x h d = go (eqb x 0x5B) refl (not-false _ h)
+cut-removed : (w : Bool) (m : Markup) (x : ℕ) (t : List ℕ) → stands m x ≡ false → target w m x t ≡ false → (isLeft x || isSpace x) ≡ false
+unfolding stands isSpace lower
+cut-removed w Written x t h d = sign-removed x 0x5B refl (not-false _ h)
+cut-removed w Bracket x t h d = sign-removed x 0x5D refl (not-false _ h)
+cut-removed w Behind x t h d = go (eqb x 0x28) refl (not-false _ h)
   where
-    go : (c : Bool) → eqb x 0x5B ≡ c → (c || isMark x) ≡ true → (isLeft x || isSpace x) ≡ false
-    go true c k = sign-removed x 0x5B refl c
-    go false c k = mark-removed Written x h d k
-removed Bracket x h d = sign-removed x 0x5D refl (not-false _ h)
-removed Behind x h d = go (eqb x 0x28) (eqb x 0x5B) refl refl (not-false _ h)
+    go : (p : Bool) → eqb x 0x28 ≡ p → (p || eqb x 0x5B) ≡ true → (isLeft x || isSpace x) ≡ false
+    go true p k = sign-removed x 0x28 refl p
+    go false p k = sign-removed x 0x5B refl k
+cut-removed w Target x t h d = d
+
+removed : (w : Bool) (m : Markup) (x : ℕ) (t : List ℕ) → isShown w m x t ≡ false → departsAt w m x t ≡ false → (isLeft x || isSpace x) ≡ false
+removed w m x t h d = go (stands m x) refl h
   where
-    go : (p c : Bool) → eqb x 0x28 ≡ p → eqb x 0x5B ≡ c → (p || (c || isMark x)) ≡ true → (isLeft x || isSpace x) ≡ false
-    go true c p q k = sign-removed x 0x28 refl p
-    go false true p q k = sign-removed x 0x5B refl q
-    go false false p q k = mark-removed Behind x h d k
-removed Target x h d = no-target Target x d
+    go : (a : Bool) → stands m x ≡ a → (a && (shows (cutByte m x) || stays w x (cutFrom (markupAfter m x) t))) ≡ false → (isLeft x || isSpace x) ≡ false
+    go true p k = mark-removed x (no-underscore w m x t d h) (not-false (isMark x) (or-right (isLinked m) _ (or-left (shows (cutByte m x)) _ k)))
+    go false p k = cut-removed w m x t p (no-target w m x t d)
 
 -- byte by byte
-same-bytes : (t : List ℕ) (m : Markup) → anyFrom departsAt m t ≡ false → anchorOf (plainFrom m t) ≡ identifier t
-unfolding anyFrom plainFrom anchorOf identifier
-same-bytes [] m d = refl
-same-bytes (x ∷ t) m d = go (shows m x) refl (same-bytes t (markupAfter m x) (or-right (departsAt m x) _ d))
+same-bytes : (t : List ℕ) (w : Bool) (m : Markup) → anyFrom departsAt w m t ≡ false → anchorOf (plainIn w m t) ≡ identifier t
+unfolding anyFrom cutFrom plainFrom anchorOf identifier
+same-bytes [] w m d = refl
+same-bytes (x ∷ t) w m d = go (isShown w m x t) refl (same-bytes t (wordAfter w m x) (markupAfter m x) (or-right (departsAt w m x t) _ d))
   where
-    n : departsAt m x ≡ false
-    n = or-left (departsAt m x) _ d
+    n : departsAt w m x t ≡ false
+    n = or-left (departsAt w m x t) _ d
 
-    go : (s : Bool) → shows m x ≡ s → anchorOf (plainFrom (markupAfter m x) t) ≡ identifier t → anchorOf (plainFrom m (x ∷ t)) ≡ identifier (x ∷ t)
-    go true e ih = rw (e, no-other-space m x n, ih)
-    go false e ih = let r = removed m x e n in rw (e, or-left (isLeft x) _ r, or-right (isLeft x) _ r) ih
+    go : (s : Bool) → isShown w m x t ≡ s → anchorOf (plainIn (wordAfter w m x) (markupAfter m x) t) ≡ identifier t → anchorOf (plainIn w m (x ∷ t)) ≡ identifier (x ∷ t)
+    go true e ih = ap anchorOf (plain-shown w m x t e) ∙ rw (no-other-space w m x t n, ih)
+    go false e ih = let r = removed w m x t e n in ap anchorOf (plain-hidden w m x t e) ∙ rw (or-left (isLeft x) _ r, or-right (isLeft x) _ r) ih
 
 pub same-identifier : SameIdentifier
 unfolding departs slug
-same-identifier t d = ap anchorOf (trim-none (plain t) (or-left (markAtEnd t) _ d)) ∙ same-bytes t Written (or-right (markAtEnd t) _ d)
+same-identifier t d = ap anchorOf (trim-none (plain t) (or-left (markAtEnd t) _ d)) ∙ same-bytes t false Written (or-right (markAtEnd t) _ d)
 
 -- each departure: a byte of which the manual makes one, and we none
-abbrev ours : Markup → ℕ → ℕ
-ours m x = bit (shows m x && (isKept x || eqb x 0x20))
+abbrev ours : Bool → Markup → ℕ → List ℕ → ℕ
+ours w m x t = bit (isShown w m x t && (isKept x || eqb x 0x20))
 
 abbrev theirs : ℕ → ℕ
 theirs x = bit (isLeft x || isSpace x)
 
-underscore-less : (m : Markup) (x : ℕ) → underscore m x ≡ true → ours m x < theirs x
+underscore-less : (w : Bool) (m : Markup) (x : ℕ) (t : List ℕ) → underscore w m x t ≡ true → ours w m x t < theirs x
 unfolding lower isSpace
-underscore-less m x h = rw (not-true (shows m x) (and-right (eqb x 0x5F) _ h), eqb-true x 0x5F (and-left _ _ h)) (omega arith)
+underscore-less w m x t h =
+    let n = not-true (isShown w m x t) (and-right (eqb x 0x5F) _ h) in
+    let z : ours w m x t ≡ 0 = ap (λ (b : Bool). bit (b && (isKept x || eqb x 0x20))) n in
+    let o : theirs x ≡ 1 = rw (eqb-true x 0x5F (and-left _ _ h)) in
+    omega (arith, z, o)
 
-target-less : (m : Markup) (x : ℕ) → target m x ≡ true → ours m x < theirs x
-unfolding shows
-target-less Written x h = absurd (false≢true h)
-target-less Bracket x h = absurd (false≢true h)
-target-less Behind x h = absurd (false≢true h)
-target-less Target x h = rw h (omega arith)
+target-less : (w : Bool) (m : Markup) (x : ℕ) (t : List ℕ) → target w m x t ≡ true → ours w m x t < theirs x
+unfolding stands
+target-less w Written x t h = absurd (false≢true h)
+target-less w Bracket x t h = absurd (false≢true h)
+target-less w Behind x t h = absurd (false≢true h)
+target-less w Target x t h = rw h (omega arith)
 
 space-small : (x : ℕ) → isSpace x ≡ true → eqb x 0x20 ≡ false → x ≤ 0x0D
 unfolding isSpace
@@ -121,28 +128,28 @@ small-removed : (x : ℕ) → x ≤ 0x0D → isKept x ≡ false
 unfolding lower
 small-removed x h = rw (lt-leb 0x41 x (omega arith), lt-leb 0x61 x (omega arith), lt-leb 0x30 x (omega arith), ne-eqb x 0x2D (λ e. omega arith), ne-eqb x 0x5F (λ e. omega arith))
 
-space-less : (m : Markup) (x : ℕ) → otherSpace m x ≡ true → ours m x < theirs x
-space-less m x h =
+space-less : (w : Bool) (m : Markup) (x : ℕ) (t : List ℕ) → otherSpace w m x t ≡ true → ours w m x t < theirs x
+space-less w m x t h =
     let s = and-left (isSpace x) _ h in
     let n = not-true (eqb x 0x20) (and-right (isSpace x) _ h) in
-    rw (s, n, small-removed x (space-small x s n)) (go (shows m x))
+    rw (s, n, small-removed x (space-small x s n)) (go (isShown w m x t))
   where
     go : (b : Bool) → bit (b && false) < 1
     go true = omega arith
     go false = omega arith
 
-less : (m : Markup) (x : ℕ) → departsAt m x ≡ true → ours m x < theirs x
-less m x =
-    target-less m x
-    or underscore-less m x
-    or space-less m x
+less : (w : Bool) (m : Markup) (x : ℕ) (t : List ℕ) → departsAt w m x t ≡ true → ours w m x t < theirs x
+less w m x t =
+    target-less w m x t
+    or underscore-less w m x t
+    or space-less w m x t
 
-equal : (m : Markup) (x : ℕ) → departsAt m x ≡ false → ours m x ≡ theirs x
-equal m x d = go (shows m x) refl
+equal : (w : Bool) (m : Markup) (x : ℕ) (t : List ℕ) → departsAt w m x t ≡ false → ours w m x t ≡ theirs x
+equal w m x t d = go (isShown w m x t) refl
   where
-    go : (b : Bool) → shows m x ≡ b → bit (b && (isKept x || eqb x 0x20)) ≡ theirs x
-    go true e = rw (no-other-space m x d)
-    go false e = rw (removed m x e d)
+    go : (b : Bool) → isShown w m x t ≡ b → bit (b && (isKept x || eqb x 0x20)) ≡ theirs x
+    go true e = rw (no-other-space w m x t d)
+    go false e = rw (removed w m x t e d)
 
 -- how long an anchor and an identifier are, by their bytes
 cons-length : (a b : Bool) (x y : ℕ) (s : List ℕ) → length (cond a (x ∷ s) (cond b (y ∷ s) s)) ≡ bit (a || b) + length s
@@ -158,25 +165,24 @@ identifier-length : (x : ℕ) (s : List ℕ) → length (identifier (x ∷ s)) �
 unfolding identifier
 identifier-length x s = cons-length (isLeft x) (isSpace x) (lower x) 0x2D (identifier s)
 
-plain-length : (m : Markup) (x : ℕ) (s : List ℕ) → length (anchorOf (plainFrom m (x ∷ s))) ≡ ours m x + length (anchorOf (plainFrom (markupAfter m x) s))
-unfolding plainFrom
-plain-length m x s = go (shows m x)
+plain-length : (w : Bool) (m : Markup) (x : ℕ) (s : List ℕ) → length (anchorOf (plainIn w m (x ∷ s))) ≡ ours w m x s + length (anchorOf (plainIn (wordAfter w m x) (markupAfter m x) s))
+plain-length w m x s = ap (λ (p : List ℕ). length (anchorOf p)) (plain-cons w m x s) ∙ go (isShown w m x s) (plainIn (wordAfter w m x) (markupAfter m x) s)
   where
-    go : (b : Bool) → length (anchorOf (cond b (x ∷ plainFrom (markupAfter m x) s) (plainFrom (markupAfter m x) s))) ≡ bit (b && (isKept x || eqb x 0x20)) + length (anchorOf (plainFrom (markupAfter m x) s))
-    go true = anchor-length x (plainFrom (markupAfter m x) s)
-    go false = omega arith
+    go : (b : Bool) (p : List ℕ) → length (anchorOf (cond b (x ∷ p) p)) ≡ bit (b && (isKept x || eqb x 0x20)) + length (anchorOf p)
+    go true p = anchor-length x p
+    go false p = omega arith
 
 -- so ours is shorter where a byte departs
-shorter : (t : List ℕ) (m : Markup) → anyFrom departsAt m t ≡ true → length (anchorOf (plainFrom m t)) < length (identifier t)
+shorter : (t : List ℕ) (w : Bool) (m : Markup) → anyFrom departsAt w m t ≡ true → length (anchorOf (plainIn w m t)) < length (identifier t)
 unfolding anyFrom
-shorter [] m d = absurd (false≢true d)
-shorter (x ∷ t) m d = go (departsAt m x) (anyFrom departsAt (markupAfter m x) t) refl refl (shorter t (markupAfter m x)) d
+shorter [] w m d = absurd (false≢true d)
+shorter (x ∷ t) w m d = go (departsAt w m x t) (anyFrom departsAt (wordAfter w m x) (markupAfter m x) t) refl refl (shorter t (wordAfter w m x) (markupAfter m x)) d
   where
-    go : (p q : Bool) → departsAt m x ≡ p → anyFrom departsAt (markupAfter m x) t ≡ q
-        → (q ≡ true → length (anchorOf (plainFrom (markupAfter m x) t)) < length (identifier t)) → (p || q) ≡ true → length (anchorOf (plainFrom m (x ∷ t))) < length (identifier (x ∷ t))
-    go true true e h ih k = omega (arith, plain-length m x t, identifier-length x t, less m x e, ih refl)
-    go true false e h ih k = omega (arith, plain-length m x t, identifier-length x t, less m x e, ap length (same-bytes t (markupAfter m x) h))
-    go false true e h ih k = omega (arith, plain-length m x t, identifier-length x t, equal m x e, ih refl)
+    go : (p q : Bool) → departsAt w m x t ≡ p → anyFrom departsAt (wordAfter w m x) (markupAfter m x) t ≡ q
+        → (q ≡ true → length (anchorOf (plainIn (wordAfter w m x) (markupAfter m x) t)) < length (identifier t)) → (p || q) ≡ true → length (anchorOf (plainIn w m (x ∷ t))) < length (identifier (x ∷ t))
+    go true true e h ih k = omega (arith, plain-length w m x t, identifier-length x t, less w m x t e, ih refl)
+    go true false e h ih k = omega (arith, plain-length w m x t, identifier-length x t, less w m x t e, ap length (same-bytes t (wordAfter w m x) (markupAfter m x) h))
+    go false true e h ih k = omega (arith, plain-length w m x t, identifier-length x t, equal w m x t e, ih refl)
     go false false e h ih k = absurd (false≢true k)
 
 -- trimming makes no anchor longer, and drops the dash of a space at an end
@@ -215,7 +221,7 @@ kept-less x s h =
     omega (arith, rw (n, take-length (x ∷ s)) at m, after-le isOther (take (length s) (x ∷ s)), length-take (length s) (x ∷ s))
 
 abbrev isStray : ℕ → Bool
-isStray x = otherSpace Written x
+isStray x = isSpace x && not (eqb x 0x20)
 
 dash : (x : ℕ) → isStray x ≡ false → isSpace x ≡ true → eqb x 0x20 ≡ true
 dash x o s = not-false (eqb x 0x20) (second (isSpace x) _ s o)
@@ -236,33 +242,33 @@ trim-less (x ∷ s) o h = go (isSpace x) refl h
     go true e k = rw e (omega (arith, anchor-trim s, dash-length x s (dash x (stray-at (x ∷ s) 0 o (omega arith)) e)))
     go false e k = rw e (last-less (kept (x ∷ s)) x s (kept-less x s k) (dash (getD (x ∷ s) (length s) 0) (stray-at (x ∷ s) (length s) o (omega arith)) k))
 
-plain-stray : (t : List ℕ) (m : Markup) → anyFrom departsAt m t ≡ false → any isStray (plainFrom m t) ≡ false
-unfolding anyFrom plainFrom any
-plain-stray [] m d = refl
-plain-stray (x ∷ t) m d = go (shows m x) (plain-stray t (markupAfter m x) (or-right (departsAt m x) _ d))
+plain-stray : (t : List ℕ) (w : Bool) (m : Markup) → anyFrom departsAt w m t ≡ false → any isStray (plainIn w m t) ≡ false
+unfolding anyFrom cutFrom plainFrom any
+plain-stray [] w m d = refl
+plain-stray (x ∷ t) w m d = ap (any isStray) (plain-cons w m x t) ∙ go (isShown w m x t) (plainIn (wordAfter w m x) (markupAfter m x) t) (plain-stray t (wordAfter w m x) (markupAfter m x) (or-right (departsAt w m x t) _ d))
   where
-    n : departsAt m x ≡ false
-    n = or-left (departsAt m x) _ d
+    n : departsAt w m x t ≡ false
+    n = or-left (departsAt w m x t) _ d
 
     o : isStray x ≡ false
     o = search of-list
 
-    go : (b : Bool) → any isStray (plainFrom (markupAfter m x) t) ≡ false → any isStray (cond b (x ∷ plainFrom (markupAfter m x) t) (plainFrom (markupAfter m x) t)) ≡ false
-    go true ih = rw (o, ih)
-    go false ih = ih
+    go : (b : Bool) (p : List ℕ) → any isStray p ≡ false → any isStray (cond b (x ∷ p) p) ≡ false
+    go true p ih = rw (o, ih)
+    go false p ih = ih
 
 pub other-identifier : OtherIdentifier
 unfolding departs slug
 other-identifier t d e = go (somewhere departsAt t) refl
   where
     go : (b : Bool) → somewhere departsAt t ≡ b → ⊥
-    go true h = omega (arith, ap length e, anchor-trim (plain t), shorter t Written h)
-    go false h = omega (arith, ap length e, trim-less (plain t) (plain-stray t Written h) (or-first (markAtEnd t) _ h d), ap length (same-bytes t Written h))
+    go true h = omega (arith, ap length e, anchor-trim (plain t), shorter t false Written h)
+    go false h = omega (arith, ap length e, trim-less (plain t) (plain-stray t false Written h) (or-first (markAtEnd t) _ h d), ap length (same-bytes t false Written h))
 
 pub each-parts : EachParts
-unfolding anyFrom slug plainFrom shows markupAfter anchorOf identifier trim trimStart trimEnd lead kept first afterLast isSpace lower
+unfolding anyFrom slug stands isLinked cutFrom wordFollows plainFrom markupAfter anchorOf identifier trim trimStart trimEnd lead kept first afterLast isSpace lower
 each-parts = ((refl, (refl, refl)), ((refl, (refl, refl)), ((refl, (refl, refl)), ((refl, (refl, refl)), (refl, (refl, refl))))))
 
 pub none-holds : NoneHolds
-unfolding departs anyFrom plainFrom shows markupAfter isSpace lower
-none-holds = (refl, (refl, (refl, (refl, refl))))
+unfolding departs anyFrom stands isLinked cutFrom wordFollows plainFrom markupAfter isSpace lower
+none-holds = (refl, (refl, (refl, (refl, (refl, refl)))))

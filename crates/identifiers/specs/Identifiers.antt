@@ -7,7 +7,7 @@ use lib.Dec.{eqb, leb}
 use Rattle.text.specs.Ascii.{isDigit, lower}
 use Rattle.text.specs.Pattern.{bytes}
 use Rattle.text.specs.Space.{isSpace}
-use Rattle.anchor.specs.Anchor.{shows, markupAfter, plain, slug}
+use Rattle.anchor.specs.Anchor.{markupAfter, isShown, wordAfter, plain, slug}
 use Rattle.anchor.specs.declared.Markup.{Markup}
 use Rattle.anchor.specs.declared.Markup.the-variants.{Written, Bracket, Behind, Target}
 use Rattle.commonmark.specs.Headings.{isSpaced}
@@ -21,39 +21,42 @@ unfoldable pub identifier : List ℕ → List ℕ
 identifier [] = []
 identifier (x ∷ s) = cond (isLeft x) (lower x ∷ identifier s) (cond (isSpace x) (0x2D ∷ identifier s) (identifier s))
 
--- A departure is a test of a byte and of where it stands: outside brackets, in them, directly behind them, or in parentheses directly behind them.
-unfoldable pub anyFrom : (Markup → ℕ → Bool) → Markup → List ℕ → Bool
-anyFrom f m [] = false
-anyFrom f m (x ∷ s) = f m x || anyFrom f (markupAfter m x) s
+-- A departure is a test of a byte and of where it stands: whether a letter or digit stands directly before it, whether it stands outside brackets, in them, directly behind them, or in parentheses directly behind them, and the text behind it.
+abbrev pub Test : Type 0
+Test = Bool → Markup → ℕ → List ℕ → Bool
 
-abbrev pub somewhere : (Markup → ℕ → Bool) → List ℕ → Bool
-somewhere f t = anyFrom f Written t
+unfoldable pub anyFrom : Test → Bool → Markup → List ℕ → Bool
+anyFrom f w m [] = false
+anyFrom f w m (x ∷ s) = f w m x s || anyFrom f (wordAfter w m x) (markupAfter m x) s
 
--- an underscore that we drop, outside brackets: the manual keeps it
-abbrev pub underscore : Markup → ℕ → Bool
-underscore m x = eqb x 0x5F && not (shows m x)
+abbrev pub somewhere : Test → List ℕ → Bool
+somewhere f t = anyFrom f false Written t
+
+-- an underscore that we drop, outside brackets and with no letter or digit directly before and after its run: the manual keeps it
+abbrev pub underscore : Test
+underscore w m x s = eqb x 0x5F && not (isShown w m x s)
 
 -- a byte in parentheses directly behind brackets which the manual, on a plain text, does not remove: we take them for a link's target
-abbrev pub target : Markup → ℕ → Bool
-target Written x = false
-target Bracket x = false
-target Behind x = false
-target Target x = isLeft x || isSpace x
+abbrev pub target : Test
+target w Written x s = false
+target w Bracket x s = false
+target w Behind x s = false
+target w Target x s = isLeft x || isSpace x
 
 -- a space byte other than 20 hex: we leave it out
-abbrev pub otherSpace : Markup → ℕ → Bool
-otherSpace m x = isSpace x && not (eqb x 0x20)
+abbrev pub otherSpace : Test
+otherSpace w m x s = isSpace x && not (eqb x 0x20)
 
 -- and one is a test of the whole text: a space byte at an end, once marks are gone: we trim it
 abbrev pub markAtEnd : List ℕ → Bool
 markAtEnd t = isSpaced (plain t)
 
 -- the list
-abbrev pub departsAt : Markup → ℕ → Bool
-departsAt m x =
-    target m x
-    || underscore m x
-    || otherSpace m x
+abbrev pub departsAt : Test
+departsAt w m x s =
+    target w m x s
+    || underscore w m x s
+    || otherSpace w m x s
 
 unfoldable pub departs : List ℕ → Bool
 departs t = markAtEnd t || somewhere departsAt t
@@ -73,7 +76,7 @@ Parts test t ours theirs = (test t ≡ true) × ((slug t ≡ ours) × (identifie
 -- each of them parts the two
 abbrev pub EachParts : Type 0
 EachParts =
-    Parts (somewhere underscore) (bytes "q_1") (bytes "q1") (bytes "q_1")
+    Parts (somewhere underscore) (bytes "_q_") (bytes "q") (bytes "_q_")
     × (Parts (somewhere target) (bytes "a [b](c") (bytes "a-b") (bytes "a-bc")
     × (Parts markAtEnd (bytes "* a") (bytes "a") (bytes "-a")
     × (Parts (somewhere otherSpace) (0x61 ∷ 0x0B ∷ 0x0C ∷ 0x0D ∷ bytes "b") (bytes "ab") (bytes "a---b")
@@ -84,6 +87,7 @@ abbrev pub NoneHolds : Type 0
 NoneHolds =
     (departs (bytes "Rating & Datum") ≡ false)
     × ((departs (bytes "*Stage* at 6.20 m") ≡ false)
-    × ((departs (bytes "a[0] [b_c] d (e)") ≡ false)
+    × ((departs (bytes "a[0] [b_] d (e)") ≡ false)
+    × ((departs (bytes "*weir_3* [at]_1") ≡ false)
     × ((departs (bytes "[a]() b") ≡ false)
-    × (departs [] ≡ false))))
+    × (departs [] ≡ false)))))

@@ -14,7 +14,7 @@ use Rattle.text.specs.Space.{isSpace, lead, kept, trimStart, trimEnd, trim, isB
 use Rattle.text.specs.Split.{split, join}
 use Rattle.buffer.specs.Decimal.{numberFrom}
 use Rattle.fence.specs.Fences.{opener}
-use Rattle.anchor.specs.Anchor.{shows, markupAfter, plainFrom, anchorOf, slug, plainEndFrom}
+use Rattle.anchor.specs.Anchor.{markupAfter, stands, isLinked, cutFrom, wordFollows, plainFrom, anchorOf, slug, plainEndFrom}
 use Rattle.heading.specs.Contents.{isLowered, isContents, drops}
 use Rattle.heading.specs.Level.{shallowestOf}
 use Rattle.heading.specs.Walk.{hashes, textStart, textEnd, headingOf, closes, opensComment, writtenKind, commentAfter, outsideKind, outsideAfter, stepKind, stepAfter, kindsFrom}
@@ -76,5 +76,5 @@ Examples =
     × (two "31" "a\nb\na\n" 99 "# T# U\n```\n[x](a)\n```\n[x](a)[y](c)" ≡ text (bytes "# T\n\n---\n\n# U\n```\n[x](a)\n```\n[x](#t)[y](u/blob/main/c)\n\n---\n\n# T\n") 0))))))))))))))))
 
 pub examples : Examples
-unfolding wideLine lower any first afterLast breaks linesFrom startsWith endsWith equals find isSpace lead kept trimStart trimEnd trim isBlank split join numberFrom opener shows markupAfter plainFrom anchorOf slug plainEndFrom isLowered isContents drops shallowestOf hashes textStart textEnd headingOf closes opensComment writtenKind commentAfter outsideKind outsideAfter stepKind stepAfter kindsFrom step walked resolve relink relinkOpen relinkTarget targetOf rewriteTarget isName fieldOf lineOf illFormedFrom recordsFrom filesFrom firstNamed pastFrom twiceFrom wideFrom absentFrom membersFrom indexChecked bookChecked go judge toldFrom headingsPast upTo withoutContents preparedLines titleOf prepare movable anchorLine earlier sharedIn sharedFrom titleNamed emit prepareAll emitAll assemble assembleOutcome
+unfolding wideLine lower any first afterLast breaks linesFrom startsWith endsWith equals find isSpace lead kept trimStart trimEnd trim isBlank split join numberFrom opener markupAfter stands isLinked cutFrom wordFollows plainFrom anchorOf slug plainEndFrom isLowered isContents drops shallowestOf hashes textStart textEnd headingOf closes opensComment writtenKind commentAfter outsideKind outsideAfter stepKind stepAfter kindsFrom step walked resolve relink relinkOpen relinkTarget targetOf rewriteTarget isName fieldOf lineOf illFormedFrom recordsFrom filesFrom firstNamed pastFrom twiceFrom wideFrom absentFrom membersFrom indexChecked bookChecked go judge toldFrom headingsPast upTo withoutContents preparedLines titleOf prepare movable anchorLine earlier sharedIn sharedFrom titleNamed emit prepareAll emitAll assemble assembleOutcome
 examples = (refl, (refl, (refl, (refl, (refl, (refl, (refl, (refl, (refl, (refl, (refl, (refl, (refl, (refl, (refl, (refl, refl))))))))))))))))

@@ -16,7 +16,7 @@ use Rattle.text.specs.Space.{isSpace, lead, kept, trimStart, trimEnd, trim, isB
 use Rattle.text.specs.Split.{split, join}
 use Rattle.marker.specs.Marker.{pathOf, namedOf, restOf, aloneOf, fragmentOf, textOf, specOf, markOf, firstOf, nextMark, fragmentKind, markedKind, kindOf}
 use Rattle.scan.specs.Scan.{readBy, readFrom, readLine, spanEvents, eventsOf, after, kindAt, lastOf, scanFrom, scan, regionsOf}
-use Rattle.anchor.specs.Anchor.{shows, markupAfter, plainFrom, anchorOf, slug, plainEndFrom}
+use Rattle.anchor.specs.Anchor.{markupAfter, stands, isLinked, cutFrom, wordFollows, plainFrom, anchorOf, slug, plainEndFrom}
 use Rattle.text.specs.Ascii.{lower}
 use Rattle.heading.specs.Contents.{isLowered, isContents, drops}
 use Rattle.heading.specs.Level.{shallowestOf}
@@ -88,5 +88,5 @@ Examples =
     × (one "4" "b\na\n" 99 9 "# A\n" ≡ text (bytes "# B\n\n---\n\n# A\n") 0))))))))))))))))))
 
 pub examples : Examples
-unfolding wideLine any first count afterLast numberFrom breaks linesFrom startsWith endsWith equals find isSpace lead kept trimStart trimEnd trim isBlank split join isFence pathOf namedOf restOf aloneOf fragmentOf textOf specOf markOf firstOf nextMark fragmentKind markedKind kindOf readBy readFrom readLine spanEvents eventsOf after kindAt lastOf scanFrom scan regionsOf shows markupAfter plainFrom anchorOf slug plainEndFrom lower isLowered isContents drops shallowestOf hashes textStart textEnd headingOf opener closes opensComment writtenKind commentAfter outsideKind outsideAfter stepKind stepAfter kindsFrom relink relinkOpen relinkTarget step walked resolve targetOf rewriteTarget anchorSelf pastFrom twiceFrom indexChecked wideFrom bookChecked isName fieldOf lineOf illFormedFrom recordsFrom filesFrom firstNamed absentFrom membersFrom go judge next through grow free isMarker unmarkedFrom embeddedLines embedTold embed walk walkRest problemsOf isWithin blankedFrom lastLevel regionsFrom scanned toldFrom pastFrom-of-shift upTo blanks prepareAll emitAll assemble withoutContents preparedLines titleOf prepare lineOf-of-assemblyMember earlier sharedIn sharedFrom movable titleNamed emit walkAll withTexts book bookOutcome
+unfolding wideLine any first count afterLast numberFrom breaks linesFrom startsWith endsWith equals find isSpace lead kept trimStart trimEnd trim isBlank split join isFence pathOf namedOf restOf aloneOf fragmentOf textOf specOf markOf firstOf nextMark fragmentKind markedKind kindOf readBy readFrom readLine spanEvents eventsOf after kindAt lastOf scanFrom scan regionsOf markupAfter stands isLinked cutFrom wordFollows plainFrom anchorOf slug plainEndFrom lower isLowered isContents drops shallowestOf hashes textStart textEnd headingOf opener closes opensComment writtenKind commentAfter outsideKind outsideAfter stepKind stepAfter kindsFrom relink relinkOpen relinkTarget step walked resolve targetOf rewriteTarget anchorSelf pastFrom twiceFrom indexChecked wideFrom bookChecked isName fieldOf lineOf illFormedFrom recordsFrom filesFrom firstNamed absentFrom membersFrom go judge next through grow free isMarker unmarkedFrom embeddedLines embedTold embed walk walkRest problemsOf isWithin blankedFrom lastLevel regionsFrom scanned toldFrom pastFrom-of-shift upTo blanks prepareAll emitAll assemble withoutContents preparedLines titleOf prepare lineOf-of-assemblyMember earlier sharedIn sharedFrom movable titleNamed emit walkAll withTexts book bookOutcome
 examples = (refl, (refl, (refl, (refl, (refl, (refl, (refl, (refl, (refl, (refl, (refl, (refl, (refl, (refl, (refl, (refl, (refl, (refl, refl))))))))))))))))))

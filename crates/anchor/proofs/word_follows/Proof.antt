@@ -1,12 +1,11 @@
 -- `anchor::word_follows` meets its contract. The invariant: what follows is what follows what is left. Assumes nothing.
 use Prim.Native.Nat.{_-_, _≤_}
 use mathlib.Core.Path.{_≡_, refl, sym, _∙_}
-use mathlib.Core.Logic.{⊎-elim}
 use lib.ListN.{length}
 use native.Mathlib.Omega.{arith}
 use borrow.Author.Needs.{needs}
 use Rattle.text.specs.Bytes.{part}
-use Rattle.anchor.proofs.AnchorLaws.{follows, follows-cut, follows-run, follows-here, follows-end}
+use Rattle.anchor.proofs.AnchorLaws.{follows, follows-past, follows-here, follows-end}
 use Rattle.anchor.proofs.word_follows.Statement.{statement}
 use Rattle.anchor.proofs.word_follows.Tie as tie
 
@@ -30,9 +29,10 @@ is-word-requires c κs = search needs
 
 returns : tie.Need-returns Inv-loop μ-loop
 returns c =
-    let l = c .before .before .before .before .before .before .loop in
-    let a = c .before .before .before .before .before .before .before .before .args in
-    c .is-word .ensures ∙ (sym (follows-here (l .markup) (a .text .now) (l .i) (a .from .end) (omega arith) (omega arith) (sym (c .before .before .before .stands .ensures) ∙ c .before .before .if1 .taken) (c .before .if2 .taken)) ∙ l .inv .1)
+    let l = c .before .before .before .before .before .loop in
+    let a = c .before .before .before .before .before .before .before .args in
+    let p = rw (c .before .before .stands .ensures) at (c .before .if1 .taken) in
+    c .is-word .ensures ∙ (sym (follows-here (l .markup) (a .text .now) (l .i) (a .from .end) (omega arith) (omega arith) p) ∙ l .inv .1)
 
 markup-after-requires : tie.Need-markup-after-requires Inv-loop μ-loop
 markup-after-requires c κs = search needs
@@ -46,10 +46,10 @@ loop-less c = omega arith
 loop-again : tie.Need-loop-again Inv-loop μ-loop
 loop-again c =
     let l = c .before .before .before .before .before .loop in
-    let a = c .before .before .before .before .before .before .before .args in (
+    let a = c .before .before .before .before .before .before .before .args in
+    let p = rw (c .before .before .stands .ensures) at (c .before .if1 .left) in (
       omega arith,
-      rw (c .markup-after .ensures)
-          (sym (⊎-elim (λ w. follows-run (l .markup) (a .text .now) (l .i) (a .from .end) (omega arith) (omega arith) (w .1 .left)) (λ w. follows-cut (l .markup) (a .text .now) (l .i) (a .from .end) (omega arith) (omega arith) (sym (c .before .before .stands .ensures) ∙ w .left)) (c .before .if1 .came)) ∙ l .inv .1),
+      rw (c .markup-after .ensures) (sym (follows-past (l .markup) (a .text .now) (l .i) (a .from .end) (omega arith) (omega arith) p) ∙ l .inv .1),
     )
 
 returns-2 : tie.Need-returns-2 Inv-loop μ-loop
