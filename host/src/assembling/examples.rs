@@ -27,7 +27,7 @@ pub const CHECKS: [(Example, Answer, &str); 3] = [
 /// Texts of the members `a`, `b` and so on, all of them listed. In this order: 18, the
 /// title, contents, blank lines, 19, 16 and the shift, two faults at once, others, and
 /// underscores that stay in an anchor or go.
-const OF_MEMBERS: [&[&str]; 68] = [
+const OF_MEMBERS: [&[&str]; 70] = [
     &["## T\n"],
     &[""],
     &["# T", "", "text"],
@@ -87,6 +87,8 @@ const OF_MEMBERS: [&[&str]; 68] = [
     &["# _u_\n", "# u\n"],
     &["# q__1\n", "# q_1\n[w](a) [w](b)\n"],
     &["# a_[_b]\n", "# T\n# [a_](x)_b\n"],
+    &["# a_[_b]\n", "# a_[](x)_c\n", "# [a_](x)_d\n[w](a) [w](b) [w](c)\n"],
+    &["# [a_](x)\n", "# [_]\n", "# ]_1\n[w](a) [w](b) [w](c)\n"],
     &["# a_[_]\n[w](a)\n", "# T\n# [a_](x)\n"],
     &["# *q*_1\n", "# *q_1*\n", "# U\n[w](a) [w](b)\n"],
     &["# q_`1`\n", "# [a]_1\n", "# a_[b\n[w](a) [w](b) [w](c)\n"],

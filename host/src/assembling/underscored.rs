@@ -10,9 +10,10 @@ use crate::walking::set::{FileSet, Handed};
 const GOING: [&str; 4] = ["_z1", "z1_", "z_.", "z _"];
 
 /// What is put before a heading's text or behind it.
-const PARTS: [&str; 20] = [
+const PARTS: [&str; 22] = [
     "_", "__", "_1", "__x", "a_", "7__", " a_[_b](u)_c ", "[a]_1", " a_[b", "[a](u_1)_b", "*q*_1",
-    "q_`1`", "a_[](u)_1", " a_b__c___7", "_u_", " _ ", " _1", "a_ ", "[_]", "[a_](u)",
+    "q_`1`", "a_[](u)_1", " a_b__c___7", "_u_", " _ ", " _1", "a_ ", "[_]", "[a_](u)", "]_1",
+    "-_7",
 ];
 
 /// Headings of which some share an anchor.

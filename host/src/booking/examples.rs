@@ -20,7 +20,7 @@ const LONG: &str = "# A\n# Contents\n- a\n- b\n- c\n- d\n- e\n- f\n- g\n- h\n- i
 /// region; which fault comes first; members and files that share headings; lines of
 /// refusals; contents, titles, fences and comments that a region brings; links;
 /// underscores that stay in an anchor or go.
-const OF_LISTS: [Example; 46] = [
+const OF_LISTS: [Example; 47] = [
     (&[("a", A), ("b", B), ("c", "text\n")], &["a", "b"], URL),
     (&[("a", A), ("b", B), ("c", "text\n")], &["b", "a", "b"], URL),
     (&[("a", A), ("b", "# B\n"), ("c", "text\n")], &["b", "a", "b", "a"], URL),
@@ -95,6 +95,7 @@ const OF_LISTS: [Example; 46] = [
     (&[("a", A), ("b", "# B\n# [q](x)_1\n"), ("c", "# q_1\n")], &["a", "b"], URL),
     (&[("a", A), ("b", "# B\n# u\n"), ("c", "# _u_\n")], &["a", "b"], URL),
     (&[("a", A), ("b", "# [Rod](a.md) *q_1*\n[w](b)\n"), ("c", "# rod q1\n")], &["a", "b"], URL),
+    (&[("a", A), ("b", "# a_[_b] [a_](x)\n"), ("c", "# q__1 *q*_1\n[w](b)\n")], &["b", "a"], URL),
     (&[("a", WEIR), ("b", "text\n"), ("c", "")], &["a", "b"], URL),
     (&[("a", WEIR), ("b", "# B\n"), ("c", "<!--[fragment:a]-->\n<!--[/]-->\n")], &["a", "b"], URL),
     (&[("a", WEIR), ("b", "# B\n[w](a)\n"), ("c", "text\n")], &["a", "b", "a"], URL),
