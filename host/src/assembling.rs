@@ -10,3 +10,4 @@ pub mod sets;
 pub mod shorter;
 pub mod texts;
 pub mod timed;
+pub mod underscored;

@@ -9,6 +9,7 @@ use jilgyemot_host::assembling::examples::examples;
 use jilgyemot_host::assembling::oracle::{REFUSALS, expected};
 use jilgyemot_host::assembling::sets::Sets;
 use jilgyemot_host::assembling::shorter::shorter;
+use jilgyemot_host::assembling::underscored::Underscores;
 use jilgyemot_host::comparison::{Options, report};
 use jilgyemot_host::walking::comparing::{Call, Comparison};
 use jilgyemot_host::walking::null::{OrNull, compare_null};
@@ -28,13 +29,19 @@ fn compare_nulls() -> Result<u64, String> {
 
 fn run(options: &Options) -> Result<u64, String> {
     let mut sets = Sets::new(options.seed);
+    let mut underscores = Underscores::new(options.seed);
     let mut comparison = Comparison::of(Call { function: assemble, expected, shorter });
     let first = compare_nulls()? + compare_examples(&mut comparison, examples())?;
-    let cases = comparison.run(options, first, || sets.next())?;
+    let cases = comparison.run(options, first, || underscores.put_into(sets.next()))?;
     println!("all members of up to {} whole lines", sets.members.complete());
-    println!("{}", comparison.answers);
-    if cases >= MANY && !comparison.answers.has_seen(&REFUSALS, &IN_FILES) {
+    let answers = &comparison.answers;
+    println!("{answers}");
+    println!("file sets {}", answers.sources);
+    if cases >= MANY && !answers.has_seen(&REFUSALS, &IN_FILES) {
         return Err("an answer was not seen".to_string());
+    }
+    if cases >= MANY && !answers.sources.has_both() {
+        return Err("no file set was held to the Rust, or none to the model".to_string());
     }
     Ok(cases)
 }

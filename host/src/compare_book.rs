@@ -6,6 +6,7 @@ mod library_book;
 
 use jilgyemot_host::assembling::checking::compare_examples;
 use jilgyemot_host::assembling::shorter::shorter;
+use jilgyemot_host::assembling::underscored::Underscores;
 use jilgyemot_host::booking::examples::examples;
 use jilgyemot_host::booking::oracle::{REFUSALS, expected};
 use jilgyemot_host::booking::sets::Sets;
@@ -36,15 +37,20 @@ fn compare_nulls() -> Result<u64, String> {
 
 fn run(options: &Options) -> Result<u64, String> {
     let mut sets = Sets::new(options.seed);
+    let mut underscores = Underscores::new(options.seed);
     let mut comparison = Comparison::of(Call { function: book, expected, shorter });
     let first = compare_nulls()? + compare_examples(&mut comparison, examples())?;
-    let cases = comparison.run(options, first, || sets.next())?;
+    let cases = comparison.run(options, first, || underscores.put_into(sets.next()))?;
     let answers = &comparison.answers;
     println!("all members of up to {} whole lines", sets.members.complete());
     println!("{answers}");
     println!("up to {} files taken in, and chains of {}", answers.most_files, answers.deepest);
+    println!("file sets {}", answers.sources);
     if cases >= MANY && !is_complete(answers) {
         return Err("an answer was not seen".to_string());
+    }
+    if cases >= MANY && !answers.sources.has_both() {
+        return Err("no file set was held to the Rust, or none to the model".to_string());
     }
     Ok(cases)
 }

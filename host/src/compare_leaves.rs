@@ -12,9 +12,10 @@ use jilgyemot_host::regions::Marked;
 use jilgyemot_host::shrink::shrink;
 use jilgyemot_host::spaced::Spaced;
 use leaf::checks::Checks;
-use leaf::links::{self, Links};
+use leaf::links::Links;
 use leaf::regions::Regions;
-use leaf::{Outcome, levels, lines, members, paths, titles, walk};
+use leaf::titles::{Anchors, check_said};
+use leaf::{Outcome, levels, lines, members, paths, walk};
 
 fn ascii(text: &[u8]) -> &str {
     str::from_utf8(text).expect("generated texts are ASCII")
@@ -49,6 +50,7 @@ struct Run {
     headed: Headed,
     titles: Titles,
     title_before: Vec<u8>,
+    anchors: Anchors,
     paths: Paths,
     lines: Lines,
     links: Links,
@@ -68,6 +70,7 @@ impl Run {
             headed: Headed::new(seed),
             titles: Titles::new(seed),
             title_before: Vec::new(),
+            anchors: Anchors::default(),
             paths: Paths::new(seed),
             lines: Lines::new(seed),
             links: Links::default(),
@@ -104,9 +107,10 @@ impl Run {
         let title = self.titles.next();
         let near = self.titles.near(&title);
         let before = std::mem::replace(&mut self.title_before, title.clone());
-        let mut count = checked(["title"], [title.clone()], |[title]| titles::check(ascii(title)))?;
+        let check = |[title]: &[Vec<u8>; 1]| self.anchors.check(ascii(title));
+        let mut count = checked(["title"], [title.clone()], check)?;
         for other in [near, before] {
-            let check = |[s, t]: &[Vec<u8>; 2]| titles::check_two(ascii(s), ascii(t));
+            let check = |[s, t]: &[Vec<u8>; 2]| self.anchors.check_two(ascii(s), ascii(t));
             count += checked(["title", "other"], [title.clone(), other], check)?;
         }
         Ok(count)
@@ -154,11 +158,15 @@ impl Run {
         println!("all marked texts of up to {} parts", self.marked.texts.parts.complete());
         println!("all marked texts of up to {} whole lines", self.marked.texts.lines.complete());
         println!("all spaced texts of up to {} parts", self.spaced.parts.complete());
+        println!("{}", self.anchors);
         println!("{}", self.links);
         println!("{}", self.regions);
         println!("{}", self.checks);
     }
 }
+
+/// From so many cases on, anchors must have been held to the Rust and to the model.
+const MANY: u64 = 200_000;
 
 /// Each part has about as many cases as the others.
 fn run(options: &Options) -> Outcome {
@@ -166,13 +174,18 @@ fn run(options: &Options) -> Outcome {
     let mut run = Run::new(options.seed);
     let mut cases = [0; PARTS];
     cases[0] += levels::check_all()?;
+    cases[1] += check_said()?;
     cases[6] += lines::check_all()?;
     while more(cases.iter().sum()) {
         let least = (0..PARTS).min_by_key(|&part| cases[part]).unwrap_or(0);
         cases[least] += run.next(least)?;
     }
     run.print_covered();
-    Ok(cases.iter().sum())
+    let cases = cases.iter().sum();
+    if cases >= MANY && !(run.anchors.has_both() && run.links.has_both()) {
+        return Err("no anchor was held to the Rust, or none to the model".to_string());
+    }
+    Ok(cases)
 }
 
 fn main() {

@@ -81,6 +81,13 @@ const NEAR_TITLE_PARTS: [&str; 19] = [
     "\x0c", "@", "{", "/", ":", "Z", "\x7f", "contents", "Table of Contents",
 ];
 
+/// Underscores that stay in an anchor, and such that go, by what stands around them.
+const UNDERSCORED: [&str; 22] = [
+    "_", "__", "a_1", "a__[", "_]", "_1", "a_[_b](u)_c", "[a]_1", "a_[b", "[a](u_1)_b", "*q*_1",
+    "q_`1`", "`q_1`", "a_[](u)_1", "[a_](u)", "[_b](u)", "[_]", "_a_", "a_b__c___7", " _", "_ ",
+    "a_*b*",
+];
+
 /// Heading texts, the kinds by turns.
 pub struct Titles {
     pub parts: Exhaustive,
@@ -99,10 +106,11 @@ impl Titles {
 
     pub fn next(&mut self) -> Vec<u8> {
         self.turn += 1;
-        if self.turn % 2 == 0 {
-            return self.parts.next();
+        match self.turn % 4 {
+            0 | 2 => self.parts.next(),
+            1 => underscored_title(&mut self.random).into_bytes(),
+            _ => random_title(&mut self.random).into_bytes(),
         }
-        random_title(&mut self.random).into_bytes()
     }
 
     /// A title near another one, so that some pairs have the same anchor.
@@ -132,6 +140,14 @@ fn part(
     random: &mut Random,
 ) -> &'static str {
     if random.one_in(often) { random.pick(near) } else { random.pick(parts) }
+}
+
+pub fn underscored_title(random: &mut Random) -> String {
+    let mut title = String::new();
+    for _ in 0..random.within(1, 6) {
+        title.push_str(part(&TITLE_PARTS, &UNDERSCORED, 2, random));
+    }
+    title
 }
 
 pub fn random_title(random: &mut Random) -> String {

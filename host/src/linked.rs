@@ -2,7 +2,7 @@
 //! leaf functions.
 
 use crate::exhaustive::Exhaustive;
-use crate::headed::random_title;
+use crate::headed::{random_title, underscored_title};
 use crate::random::Random;
 
 const PATH_PARTS: [&str; 8] = ["a", "b", ".", "..", "", "/", "...", ".a"];
@@ -182,7 +182,9 @@ impl Setting {
         let mut members: Vec<(&str, String)> = Vec::new();
         for at in 0..random.within(1, 3) {
             // What a title begins with keeps their anchors apart.
-            let title = format!("q{at} {}", random_title(random));
+            let underscored = random.one_in(8);
+            let title = if underscored { underscored_title(random) } else { random_title(random) };
+            let title = format!("q{at} {title}");
             let again = at > 0 && random.one_in(4);
             let name = if again { members[0].0 } else { random.pick(&NAMES) };
             members.push((name, title));

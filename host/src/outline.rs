@@ -1,10 +1,11 @@
-//! The outline of a text, as `replay` prints it, from the Rust's answers.
+//! The outline of a text, as `replay` prints it, from the Rust's answers and, where
+//! underscores stay in an anchor, from the model's.
 
 use std::fmt::Write;
 
 use doc_gen::assembly::{self, Heading};
 
-use crate::anchor;
+use crate::anchor::anchor;
 
 pub fn lines_of(text: &str) -> Vec<String> {
     text.split('\n').map(str::to_string).collect()
@@ -40,6 +41,6 @@ pub fn outline(text: &str) -> String {
 fn heading_row(heading: &Heading, line: &str) -> String {
     let Heading { index, level, text } = heading;
     let (start, end) = text_place(line, *level, text);
-    let anchor = anchor::slug(text).expect("a title is assembled");
+    let (anchor, _) = anchor(text).expect("a title is assembled, and the model agrees");
     format!("heading\t{}\t{level}\t{start}\t{end}\t{anchor}\n", index + 1)
 }

@@ -1,6 +1,6 @@
 //! Writes the stored cases of the programs `replay`, `replay_fill`, `replay_assembly` and
 //! `replay_book`: what they read and what they have to print, from the Rust's answers
-//! and, at the limits, from the models.
+//! and, at the limits and for underscores that stay in an anchor, from the models.
 
 mod json;
 mod record_assembly;
@@ -13,6 +13,7 @@ mod record_walk;
 use std::fs;
 use std::path::Path;
 
+use jilgyemot_host::anchor::{SAID, anchor};
 use jilgyemot_host::generate::{damaged, marked, straddling};
 use jilgyemot_host::notes::{marker_in_each_line, notes};
 use jilgyemot_host::oracle::Expected;
@@ -148,6 +149,17 @@ fn add_headings(cases: &mut Cases) {
     cases.add(long.concat().as_bytes(), AMPLE);
 }
 
+/// Titles with underscores, whose anchors are told.
+fn add_underscores(cases: &mut Cases) {
+    let mut text = String::new();
+    for (title, said) in SAID {
+        let made = anchor(title).map(|(anchor, _)| anchor);
+        assert_eq!(made.as_deref(), Ok(said), "{title}");
+        text += &format!("# {title}\n");
+    }
+    cases.add(text.as_bytes(), AMPLE);
+}
+
 /// Many rows, of each kind by itself and of all together: with exactly enough
 /// room and with one byte too little.
 fn add_many_rows(cases: &mut Cases, random: &mut Random) {
@@ -184,6 +196,7 @@ fn add_scans(examples: &str, cases: &mut Cases) {
     add_document_examples(cases);
     add_commonmark(examples, cases).expect("a list of examples");
     add_headings(cases);
+    add_underscores(cases);
     record_named::scans().iter().for_each(|text| cases.add(text, AMPLE));
     add_generated(cases);
 }

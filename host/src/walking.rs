@@ -12,4 +12,5 @@ pub mod null;
 pub mod reading;
 pub mod set;
 pub mod shorter;
+pub mod source;
 pub mod steps;

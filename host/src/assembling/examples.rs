@@ -25,8 +25,9 @@ pub const CHECKS: [(Example, Answer, &str); 3] = [
 ];
 
 /// Texts of the members `a`, `b` and so on, all of them listed. In this order: 18, the
-/// title, contents, blank lines, 19, 16 and the shift, and two faults at once.
-const OF_MEMBERS: [&[&str]; 50] = [
+/// title, contents, blank lines, 19, 16 and the shift, two faults at once, others, and
+/// underscores that stay in an anchor or go.
+const OF_MEMBERS: [&[&str]; 70] = [
     &["## T\n"],
     &[""],
     &["# T", "", "text"],
@@ -77,10 +78,30 @@ const OF_MEMBERS: [&[&str]; 50] = [
     &["# T\n#include\n####### S\n## R\n"],
     &["# [Rod](a.md) *q_1*\n[w](a)\n", "# U\n[w](a) [w](./b)\n"],
     &["# T\n---\n", "# U\n---\n\n"],
+    &["# weir_3\n## S\n", "# U\n[w](a) [w](a#weir3)\n"],
+    &["# weir_3\n# weir3\n# WEIR_3\n[w](a)\n"],
+    &["# T\n\n# weir_3\n", "# U\n# WEIR_3\n"],
+    &["# q_1\n", "# q1\n[w](a) [w](b)\n"],
+    &["# q_1\n", "# [q](x)_1\n"],
+    &["# q_1\n", "# [q_1](x)\n"],
+    &["# _u_\n", "# u\n"],
+    &["# q__1\n", "# q_1\n[w](a) [w](b)\n"],
+    &["# a_[_b]\n", "# T\n# [a_](x)_b\n"],
+    &["# a_[_b]\n", "# a_[](x)_c\n", "# [a_](x)_d\n[w](a) [w](b) [w](c)\n"],
+    &["# [a_](x)\n", "# [_]\n", "# ]_1\n[w](a) [w](b) [w](c)\n"],
+    &["# a_[_]\n[w](a)\n", "# T\n# [a_](x)\n"],
+    &["# *q*_1\n", "# *q_1*\n", "# U\n[w](a) [w](b)\n"],
+    &["# q_`1`\n", "# [a]_1\n", "# a_[b\n[w](a) [w](b) [w](c)\n"],
+    &["# [a](b_1)_b\n[w](a)\n", "# A_1 [w](a)\n[w](b)\n"],
+    &["# T\n```\n# weir_3\n```\n# Contents\nweir_3\n", "# weir_3\n[w](b)\n"],
+    &["# weir_3\n", "text\n"],
+    &["# weir_3\n# S\n###### r_1\n", "# U\n"],
+    &["# weir_3\n# S\n###### R\n", "# U\n# Weir_3\n"],
+    &["# weir_3\r\n[w](a)\r\n"],
 ];
 
 /// Names listed twice, links of all kinds, and URLs.
-const OF_LISTS: [Example; 16] = [
+const OF_LISTS: [Example; 17] = [
     (&[("a", "# T\n[w](a)\n"), ("b", "# U\n[w](a)\n")], &["a", "b", "a"], URL),
     (&[("a", "# T\n# T\n"), ("b", "# U\n")], &["a", "a", "b"], URL),
     (&[("a", "# T\n"), ("b", "# T\n")], &["a", "a", "b"], URL),
@@ -104,6 +125,7 @@ const OF_LISTS: [Example; 16] = [
     (&[("a", "# T\n[w](b)\n")], &["a"], "/"),
     (&[("a", "# T\n[w](b)\n")], &["a"], "h"),
     (&[("/a", "# T\n[w](a) [w](/a)\n"), ("a", "# U\n[w](a)\n")], &["/a", "a"], URL),
+    (&[("a", "# weir_3\n# weir_3\n[w](a)\n"), ("b", "# U\n[w](a)\n")], &["a", "b", "a"], URL),
 ];
 
 /// Index, contents, list and URL that are refused: the table's examples.

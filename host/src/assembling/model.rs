@@ -8,6 +8,7 @@ use crate::walking::reading::{
     Heading, headings_and_quoted, lines, shifted, without_blank_end, without_contents,
 };
 use crate::walking::set::File;
+use crate::walking::source::Source;
 use crate::walking::steps::{End, Fault, Place, Step, Walk};
 
 /// The walk of members, given by their records counted from 0.
@@ -26,8 +27,7 @@ fn assembled(
     url: &[u8],
     steps: &mut Vec<Step>,
 ) -> Result<Vec<u8>, Fault> {
-    let prepare = |&record: &usize| Member::prepared(record + 1, files[record]);
-    let members: Vec<Member> = members.iter().map(prepare).collect::<Result<_, _>>()?;
+    let members = prepared(files, members)?;
     compare(&members)?;
     // For a name listed twice the later title serves links.
     let titles = members.iter().map(|member| (member.name, anchor(member.title())));
@@ -44,6 +44,17 @@ fn assembled(
     text.push(b'\n');
     steps.push(Step::Sized { length: text.len(), place });
     Ok(text)
+}
+
+/// What members are held to, by their headings once they are prepared. Where one has no
+/// title, no anchor is made.
+pub fn source(files: &[File], members: &[usize]) -> Source {
+    let Ok(members) = prepared(files, members) else { return Source::Rust };
+    Source::of(members.iter().flat_map(|member| &member.headings).map(|heading| heading.text))
+}
+
+fn prepared<'a>(files: &[File<'a>], members: &[usize]) -> Result<Vec<Member<'a>>, Fault> {
+    members.iter().map(|&record| Member::prepared(record + 1, files[record])).collect()
 }
 
 /// Two members of different names share no anchor.

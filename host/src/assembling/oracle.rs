@@ -1,13 +1,15 @@
 //! What an assembly has to answer. Texts and faults are those of the Rust's
 //! `assembly::assemble`; its messages are taken apart into number and places. Of L,
-//! which the Rust does not have, the model tells.
+//! which the Rust does not have, the model tells, and of the anchors of headings whose
+//! underscores stay, which they do not in the Rust.
 
 use doc_gen::assembly::{self, Member};
 
 use super::case::Case;
-use super::model::walk;
-use crate::walking::expected::{Expected, agreed};
+use super::model::{source, walk};
+use crate::walking::expected::{Expected, agreed, agreed_but_for_underscores};
 use crate::walking::set::{File, Handed, ascii};
+use crate::walking::source::Source;
 use crate::walking::steps::{End, Fault, Place, Walk};
 
 /// The refusals of an assembly.
@@ -15,17 +17,31 @@ pub const REFUSALS: [u64; 13] = [1, 2, 3, 4, 5, 6, 7, 8, 14, 16, 17, 18, 19];
 
 /// The members, as the Rust takes them.
 pub fn members(case: &Case) -> Vec<Member> {
-    let files = case.set.files();
-    let member = |record: usize| {
+    rust_members(&case.set.files(), &case.members())
+}
+
+fn rust_members(files: &[File], members: &[usize]) -> Vec<Member> {
+    let member = |&record: &usize| {
         let [path, text] = [files[record].0, files[record].1].map(|part| ascii(part).to_string());
         Member { path, text }
     };
-    case.members().into_iter().map(member).collect()
+    members.iter().map(member).collect()
 }
 
-/// What the Rust gives for members of these files.
-pub fn rust(members: &[Member], url: &[u8], files: &[File]) -> End {
-    match assembly::assemble(members, ascii(url)) {
+/// What members, given by their records counted from 0, have to become, and where that
+/// comes from.
+pub fn assembled(files: &[File], members: &[usize], url: &[u8]) -> Result<(End, Source), String> {
+    let (rust, source) = (rust(files, members, url), source(files, members));
+    if source == Source::Rust {
+        return Ok((rust, source));
+    }
+    let model = walk(files, members, url).end;
+    agreed_but_for_underscores(&model, &rust)?;
+    Ok((model, source))
+}
+
+fn rust(files: &[File], members: &[usize], url: &[u8]) -> End {
+    match assembly::assemble(&rust_members(files, members), ascii(url)) {
         Ok(text) => End::Text(text.into_bytes()),
         Err(message) => match taken_apart(&message, files) {
             Some(fault) => End::Fault(fault),
@@ -84,24 +100,25 @@ pub fn expected(case: &Case) -> Result<Expected, String> {
 /// The same for another walk of a list.
 pub fn expected_of(
     case: &Case,
-    walked: impl FnOnce(&Case) -> Result<Walk, String>,
+    walked: impl FnOnce(&Case) -> Result<(Walk, Source), String>,
 ) -> Result<Expected, String> {
-    let walk = match case.refusal() {
+    let (walk, source) = match case.refusal() {
         // 8, which limits give, comes before it.
         Some([_, 14, _, line, ..]) => {
             let place = Place { file: 0, line: line as usize };
-            Walk::ended(End::Fault(Fault::at(14, place)))
+            (Walk::ended(End::Fault(Fault::at(14, place))), Source::Refusals)
         }
         Some(answer) => return Ok(Expected::refused(answer)),
         None => walked(case)?,
     };
     let texts = case.set.files().len() + case.lines();
-    Ok(Expected { refused: None, walk, texts })
+    Ok(Expected { refused: None, walk, source, texts })
 }
 
-fn walked(case: &Case) -> Result<Walk, String> {
-    let files = case.set.files();
-    let walk = walk(&files, &case.members(), &case.url);
-    agreed(&walk, &rust(&members(case), &case.url, &files), 0)?;
-    Ok(walk)
+fn walked(case: &Case) -> Result<(Walk, Source), String> {
+    let (files, members) = (case.set.files(), case.members());
+    let walk = walk(&files, &members, &case.url);
+    let (end, source) = assembled(&files, &members, &case.url)?;
+    agreed(&walk, &end, 0)?;
+    Ok((walk, source))
 }

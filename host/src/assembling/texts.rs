@@ -43,8 +43,11 @@ const LISTED: [&str; 8] =
 /// What ends them.
 const ENDS: [&str; 8] = ["#tag", "#", "## Next", "####### x", "#\tx", "# ", "###", "#!"];
 
+/// A text with a run of underscores that stays.
+pub const STAYING: &str = "z_1";
+
 /// Texts of headings, one of their anchors empty.
-const WORDS: [&str; 8] = ["A", "A", "B", "Rod 7", "Rating & Datum", "x-y", "z_1", ""];
+const WORDS: [&str; 8] = ["A", "A", "B", "Rod 7", "Rating & Datum", "x-y", STAYING, ""];
 
 /// Whole texts.
 const WHOLE: [&str; 14] = [

@@ -10,13 +10,17 @@ use crate::walking::set::FileSet;
 const A: &str = "# A\n<!--[fragment:c]-->\nold\n<!--[/]-->\n";
 const B: &str = "# B\n<!--[fragment:c]-->\n<!--[/]-->\n\n<!--[fragment:c]-->\n<!--[/]-->\ntext\n";
 
+/// The same.
+const WEIR: &str = "# weir_3\n<!--[fragment:c]-->\nold\n<!--[/]-->\n";
+
 /// Hand-written contents that are longer than all that is put.
 const LONG: &str = "# A\n# Contents\n- a\n- b\n- c\n- d\n- e\n- f\n- g\n- h\n- i\n- j\n- k\n- l\n";
 
 /// In this order: B running on through the list, a name listed twice, members with no
 /// region; which fault comes first; members and files that share headings; lines of
-/// refusals; contents, titles, fences and comments that a region brings; links.
-const OF_LISTS: [Example; 36] = [
+/// refusals; contents, titles, fences and comments that a region brings; links;
+/// underscores that stay in an anchor or go.
+const OF_LISTS: [Example; 47] = [
     (&[("a", A), ("b", B), ("c", "text\n")], &["a", "b"], URL),
     (&[("a", A), ("b", B), ("c", "text\n")], &["b", "a", "b"], URL),
     (&[("a", A), ("b", "# B\n"), ("c", "text\n")], &["b", "a", "b", "a"], URL),
@@ -80,6 +84,21 @@ const OF_LISTS: [Example; 36] = [
         &["a:b"],
         URL,
     ),
+    (
+        &[("a", WEIR), ("b", "# B\n[w](a)\n"), ("c", "[w](a) [w](b) [w](a#weir3)\n")],
+        &["a", "b"],
+        URL,
+    ),
+    (&[("a", "<!--[fragment:c]-->\n<!--[/]-->\n[w](a)\n"), ("c", "# weir_3\n")], &["a"], URL),
+    (&[("a", A), ("b", "# B\n# WEIR_3\n"), ("c", "text\n# weir_3\n")], &["a", "b"], URL),
+    (&[("a", A), ("b", "# B\n# q1\n"), ("c", "# q_1\n")], &["a", "b"], URL),
+    (&[("a", A), ("b", "# B\n# [q](x)_1\n"), ("c", "# q_1\n")], &["a", "b"], URL),
+    (&[("a", A), ("b", "# B\n# u\n"), ("c", "# _u_\n")], &["a", "b"], URL),
+    (&[("a", A), ("b", "# [Rod](a.md) *q_1*\n[w](b)\n"), ("c", "# rod q1\n")], &["a", "b"], URL),
+    (&[("a", A), ("b", "# a_[_b] [a_](x)\n"), ("c", "# q__1 *q*_1\n[w](b)\n")], &["b", "a"], URL),
+    (&[("a", WEIR), ("b", "text\n"), ("c", "")], &["a", "b"], URL),
+    (&[("a", WEIR), ("b", "# B\n"), ("c", "<!--[fragment:a]-->\n<!--[/]-->\n")], &["a", "b"], URL),
+    (&[("a", WEIR), ("b", "# B\n[w](a)\n"), ("c", "text\n")], &["a", "b", "a"], URL),
 ];
 
 /// The host of a fill, with a title at its end, as the only member, listed twice.

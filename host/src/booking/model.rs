@@ -14,13 +14,16 @@ pub fn walk(files: &[File], members: &[usize], url: &[u8], most: usize) -> Walk 
         Ok(filled) => filled,
         Err(end) => return walker.ended(end),
     };
-    let texts = files.iter().zip(&filled);
-    let files: Vec<File> =
-        texts.map(|((name, text), filled)| (*name, filled.as_deref().unwrap_or(text))).collect();
-    let Walk { steps, end, .. } = assembly_walk(&files, members, url);
+    let Walk { steps, end, .. } = assembly_walk(&replaced(files, &filled), members, url);
     let mut walk = walker.ended(end);
     walk.steps.extend(steps);
     walk
+}
+
+/// The files with their fills' texts, or their own where these give none.
+pub fn replaced<'a>(files: &[File<'a>], filled: &'a [Option<Vec<u8>>]) -> Vec<File<'a>> {
+    let texts = files.iter().zip(filled);
+    texts.map(|((name, text), filled)| (*name, filled.as_deref().unwrap_or(text))).collect()
 }
 
 /// For each file the text that its fill gives, where it is a member and has a region.

@@ -10,6 +10,7 @@ use super::case::Case;
 use super::model::walk;
 use crate::walking::expected::{Expected, agreed};
 use crate::walking::set::{File, Handed, ascii};
+use crate::walking::source::Source;
 use crate::walking::steps::{End, Fault, Place};
 
 /// The most files that a walk takes in, if nothing else is said.
@@ -109,5 +110,5 @@ pub fn expected_within(case: &Case, most: usize) -> Result<Expected, String> {
     let reader = Reader::of(&files, most);
     let end = reader.fill(0, ascii(&case.name), ascii(&case.text));
     agreed(&walk, &end, reader.reads())?;
-    Ok(Expected { refused: None, walk, texts: files.len() })
+    Ok(Expected { refused: None, walk, source: Source::Rust, texts: files.len() })
 }

@@ -3,18 +3,22 @@
 
 use std::fmt::{self, Display, Formatter};
 
-use doc_gen::assembly::{self, Member};
 use doc_gen::fragment::{self, Files};
+use jilgyemot_host::assembling::oracle;
 use jilgyemot_host::linked::Setting;
+use jilgyemot_host::walking::set::{File, ascii};
+use jilgyemot_host::walking::source::{Source, Sources};
+use jilgyemot_host::walking::steps::End;
 
 use super::library::{self, Answer};
 use super::{Outcome, one, same, walk};
 
-/// How many targets became what.
+/// How many targets became what, and what the lines of members were held to.
 #[derive(Default)]
 pub struct Links {
     filled: Targets,
     assembled: Targets,
+    sources: Sources,
 }
 
 #[derive(Default)]
@@ -34,21 +38,29 @@ impl Links {
         let what = |kind| format!("{line:?}, {kind}, {setting:?}");
         let filled = filled(&line, setting, &mut self.filled);
         let assembled = assembled(&line, setting, &mut self.assembled);
+        let (expected, source) = expected_assembled(&line, setting)?;
+        self.sources.count(source);
         Ok(check_places(&line)?
             + same(&what("filled"), rust_filled(&line, setting)?, filled)?
-            + same(&what("assembled"), rust_assembled(&line, setting)?, assembled)?)
+            + same(&what("assembled"), expected, assembled)?)
+    }
+
+    /// Whether lines of members were held to both.
+    pub fn has_both(&self) -> bool {
+        self.sources.has_both()
     }
 }
 
 impl Display for Links {
     fn fmt(&self, f: &mut Formatter) -> fmt::Result {
-        let Links { filled, assembled } = self;
+        let Links { filled, assembled, sources } = self;
         writeln!(f, "targets of a fill: {} kept, {} to a fragment", filled.kept, filled.fragment)?;
-        write!(
+        writeln!(
             f,
             "targets of an assembly: {} kept, {} to a fragment, {} to a title, {} outside",
             assembled.kept, assembled.fragment, assembled.title, assembled.outside
-        )
+        )?;
+        write!(f, "lines of members {sources}")
     }
 }
 
@@ -113,17 +125,21 @@ fn filled(line: &str, setting: &Setting, targets: &mut Targets) -> String {
     })
 }
 
-fn rust_assembled(line: &str, setting: &Setting) -> Result<String, String> {
-    let mut members = Vec::new();
-    let mut index = 0;
-    for (at, (name, title)) in setting.members.iter().enumerate() {
-        let holds = at == setting.holder;
-        let text = if holds { format!("# {title}\n{line}\nz") } else { format!("# {title}") };
+/// From the Rust, or from the model where underscores stay in a title's anchor.
+fn expected_assembled(line: &str, setting: &Setting) -> Result<(String, Source), String> {
+    let text = |(at, (_, title)): (usize, &(&str, String))| match at == setting.holder {
+        true => format!("# {title}\n{line}\nz"),
+        false => format!("# {title}"),
+    };
+    let texts: Vec<String> = setting.members.iter().enumerate().map(text).collect();
+    let names = setting.members.iter().map(|(name, _)| name.as_bytes());
+    let files: Vec<File> = names.zip(texts.iter().map(|text| text.as_bytes())).collect();
+    let members: Vec<usize> = (0..files.len()).collect();
+    match oracle::assembled(&files, &members, setting.url.as_bytes())? {
         // A title before it stands with a rule between empty lines.
-        index += if at < setting.holder { 4 } else { 0 };
-        members.push(Member { path: name.to_string(), text });
+        (End::Text(text), source) => Ok((nth_line(ascii(&text), 4 * setting.holder + 1)?, source)),
+        _ => Err("the members are not assembled".to_string()),
     }
-    nth_line(&assembly::assemble(&members, setting.url)?, index + 1)
 }
 
 fn assembled(line: &str, setting: &Setting, targets: &mut Targets) -> String {

@@ -6,6 +6,7 @@ use super::expected::Expected;
 use super::lent::{Function, Lent};
 use super::limits::{Limits, Needs, all_limits, distinct, edge_limits, random_limits};
 use super::set::Handed;
+use super::source::Sources;
 use crate::answer::Answer;
 use crate::comparison::Options;
 use crate::random::Random;
@@ -18,6 +19,8 @@ pub struct Answers {
     pub no_region: u64,
     pub most_files: u64,
     pub deepest: usize,
+    /// What the file sets are held to.
+    pub sources: Sources,
     longest: u64,
     /// Cases that were run again with larger limits.
     again: u64,
@@ -103,6 +106,7 @@ impl<C: Handed> Comparison<C> {
         choose: impl FnOnce(&Needs, usize) -> Vec<Limits>,
     ) -> Result<u64, Wrong> {
         let expected = (self.call.expected)(case).map_err(|wrong| (wrong, None))?;
+        self.answers.sources.count(expected.source);
         let mut calls = 0;
         for limits in distinct(choose(&Needs::of(&expected.walk), expected.texts)) {
             let Some(answer) = expected.answer(&limits) else { continue };

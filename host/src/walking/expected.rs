@@ -1,7 +1,8 @@
 //! What a call has to answer at any limits.
 
 use super::limits::Limits;
-use super::steps::{End, Walk};
+use super::source::Source;
+use super::steps::{End, Fault, Walk};
 use crate::answer::Answer;
 use crate::refusals::{Sizes, short_sizes};
 
@@ -9,6 +10,7 @@ pub struct Expected {
     /// One of 1 to 7.
     pub refused: Option<Answer>,
     pub walk: Walk,
+    pub source: Source,
     /// How many texts the work buffer holds, besides two.
     pub texts: usize,
 }
@@ -16,7 +18,8 @@ pub struct Expected {
 impl Expected {
     /// Of a case that is refused before any limit is looked at.
     pub fn refused(answer: Answer) -> Self {
-        Expected { refused: Some(answer), walk: Walk::ended(End::NoRegion), texts: 0 }
+        let walk = Walk::ended(End::NoRegion);
+        Expected { refused: Some(answer), walk, source: Source::Refusals, texts: 0 }
     }
 
     /// The six numbers; none where the walk is unfinished.
@@ -45,6 +48,26 @@ pub fn agreed(model: &Walk, rust: &End, reads: usize) -> Result<(), String> {
     }
     let [model, rust] = [(&model.end, model.taken()), (rust, reads)].map(shown);
     Err(format!("model {model}\nRust  {rust}"))
+}
+
+/// Says where an assembly by the model and one by the Rust differ in more than the anchors
+/// of headings whose underscores stay. Such an anchor has more underscores than the
+/// Rust's and is the same else; which headings share one cannot be told from the Rust's.
+pub fn agreed_but_for_underscores(model: &End, rust: &End) -> Result<(), String> {
+    let shares = |end: &End| matches!(end, End::Fault(Fault { number: 19, .. }));
+    if shares(model) || shares(rust) || without_underscores(model) == without_underscores(rust) {
+        return Ok(());
+    }
+    let [model, rust] = [model, rust].map(|end| shown((end, 0)));
+    Err(format!("model {model}\nRust  {rust}\nalso without underscores"))
+}
+
+fn without_underscores(end: &End) -> End {
+    let other = |byte: &&u8| **byte != b'_';
+    match end {
+        End::Text(text) => End::Text(text.iter().filter(other).copied().collect()),
+        end => end.clone(),
+    }
 }
 
 fn shown((end, taken): (&End, usize)) -> String {

@@ -1,5 +1,6 @@
 //! Anchors, links and paths, as `slug`, `anchor_self_links`, `rewrite_links` and
-//! `resolve`, which document 01 names. Nothing of the Rust is called here.
+//! `resolve`, which document 01 names, and for anchors as request 01 of document 02 says.
+//! Nothing of the Rust is called here.
 
 use super::reading::{find, holds, trimmed};
 
@@ -13,26 +14,48 @@ pub fn anchor(text: &[u8]) -> Vec<u8> {
     trimmed(&plain(text)).iter().filter_map(byte).collect()
 }
 
-/// A text without its markup: a link keeps what stands in its brackets.
+/// Whether a heading text has a run of underscores that stays by request 01. The Rust
+/// gives the same anchor where there is none.
+pub fn has_staying_run(text: &[u8]) -> bool {
+    let (cut, _) = cut(text);
+    (0..cut.len()).any(|at| stays(&cut, at))
+}
+
+/// A text without its markup: in a link's text all of it stays.
 fn plain(text: &[u8]) -> Vec<u8> {
-    let mut plain = Vec::new();
+    let (cut, linked) = cut(text);
+    let goes = |at: usize| b"`*_".contains(&cut[at]) && !linked[at] && !stays(&cut, at);
+    (0..cut.len()).filter(|&at| !goes(at)).map(|at| cut[at]).collect()
+}
+
+/// A text with its links cut to what stands in their brackets, and for each byte whether
+/// it stood there.
+fn cut(text: &[u8]) -> (Vec<u8>, Vec<bool>) {
+    let (mut cut, mut linked) = (Vec::new(), Vec::new());
     let mut rest = text;
     while let Some((&byte, behind)) = rest.split_first() {
-        rest = behind;
-        match byte {
-            b'[' => {
-                let inside;
-                (inside, rest) = parted(rest, b']');
-                plain.extend(inside);
-                if let Some(target) = rest.strip_prefix(b"(") {
-                    rest = parted(target, b')').1;
-                }
+        if byte == b'[' {
+            let inside;
+            (inside, rest) = parted(behind, b']');
+            cut.extend(inside);
+            if let Some(target) = rest.strip_prefix(b"(") {
+                rest = parted(target, b')').1;
             }
-            b'`' | b'*' | b'_' => {}
-            _ => plain.push(byte),
+        } else {
+            cut.push(byte);
+            rest = behind;
         }
+        linked.resize(cut.len(), byte == b'[');
     }
-    plain
+    (cut, linked)
+}
+
+/// Whether an underscore stands here, in a run with a letter or digit directly before
+/// and behind it.
+fn stays(cut: &[u8], at: usize) -> bool {
+    let other = |&&byte: &&u8| byte != b'_';
+    let sides = [cut[..at].iter().rfind(other), cut[at..].iter().find(other)];
+    cut[at] == b'_' && sides.iter().all(|side| side.is_some_and(u8::is_ascii_alphanumeric))
 }
 
 /// What stands before a byte and behind it; all and nothing where it does not come.

@@ -39,7 +39,7 @@ impl Fault {
     }
 }
 
-#[derive(PartialEq)]
+#[derive(Clone, PartialEq)]
 pub enum End {
     Text(Vec<u8>),
     NoRegion,
