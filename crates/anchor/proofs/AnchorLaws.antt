@@ -17,7 +17,7 @@ use Rattle.text.specs.Pattern.{startsWith, equals}
 use Rattle.text.proofs.BytesLaws.{or-left, or-right, after-none}
 use Rattle.text.proofs.PatternLaws.{and-left, and-right}
 use Rattle.text.specs.Ascii.{lower}
-use Rattle.anchor.specs.Anchor.{markupAfter, stands, isLinked, Cut, cutByte, cutFrom, isMark, isWord, wordFollows, wordBehind, stays, shows, plainFrom, isKept, anchorOf, isShown, wordAfter, isSeen, plainEndFrom, stirred, numberFrom}
+use Rattle.anchor.specs.Anchor.{markupAfter, stands, isLinked, Cut, cutByte, cutFrom, isMark, isWord, wordFollows, wordBehind, stays, shows, plainFrom, isKept, anchorOf, isText, isShown, wordAfter, isSeen, plainEndFrom, stirred, numberFrom}
 use Rattle.anchor.specs.declared.Markup.{Markup}
 
 -- trimming, by the first byte
@@ -111,7 +111,7 @@ unfolding cutFrom wordFollows
 follows-nil m = refl
 
 -- a run that no letter or digit follows goes, whatever stands before it
-pub goes : (s : List Cut) → wordFollows s ≡ false → plainFrom false s ≡ plainFrom true s
+goes : (s : List Cut) → wordFollows s ≡ false → plainFrom false s ≡ plainFrom true s
 unfolding wordFollows plainFrom
 goes [] h = refl
 goes (c ∷ s) h = go (eqb (c .byte) 0x5F) h (goes s)
@@ -121,6 +121,14 @@ goes (c ∷ s) h = go (eqb (c .byte) 0x5F) h (goes s)
         ≡ cond (shows c || (b && (true && wordFollows s))) (c .byte ∷ plainFrom (cond b true (isWord (c .byte))) s) (plainFrom (cond b true (isWord (c .byte))) s)
     go true e ih = rw (e, ih e)
     go false e ih = refl
+
+pub judged : (w : Bool) (s : List Cut) → plainFrom (w && wordFollows s) s ≡ plainFrom w s
+judged false s = refl
+judged true s = go (wordFollows s) refl
+  where
+    go : (b : Bool) → wordFollows s ≡ b → plainFrom b s ≡ plainFrom true s
+    go true e = refl
+    go false e = goes s e
 
 -- a letter or digit is text, and no space byte
 word-mark : (x : ℕ) → isMark x ≡ true → isWord x ≡ false
@@ -382,7 +390,7 @@ module _ (m : Markup) (t : List ℕ) (i : ℕ) where
   pub start-nowhere : (e : ℕ) → e ≤ i → plainEndFrom m 0 i (drop i t) ≡ e → plainIn false m (part i e t) ≡ trim (plainIn false m (drop i t))
   start-nowhere e l k = seen-none false m (drop i t) i e l k
 
-part-cons : (t : List ℕ) (i e : ℕ) → i < e → e ≤ length t → part i e t ≡ getD t i 0 ∷ part (i + 1) e t
+pub part-cons : (t : List ℕ) (i e : ℕ) → i < e → e ≤ length t → part i e t ≡ getD t i 0 ∷ part (i + 1) e t
 part-cons t i e h k =
     let j : e - i ≡ suc (e - (i + 1)) = omega arith in
     let l : i < length t = omega arith in
@@ -423,28 +431,21 @@ module _ (m : Markup) (t : List ℕ) (i e : ℕ) (h : i < e) (k : e ≤ length t
   pub plain-cut : (w : Bool) → stands m (getD t i 0) ≡ false → plainIn w m (part i e t) ≡ plainIn w (markupAfter m (getD t i 0)) (part (i + 1) e t)
   plain-cut w p = plain-part w ∙ (plain-cons w m (getD t i 0) (part (i + 1) e t) ∙ rw p)
 
-  pub plain-run : (w : Bool) → stands m (getD t i 0) ≡ true → getD t i 0 ≡ 0x5F
-      → let rest = plainIn w (markupAfter m (getD t i 0)) (part (i + 1) e t) in
-      plainIn w m (part i e t)
-      ≡ cond (isLinked m || (w && follows (markupAfter m (getD t i 0)) (part (i + 1) e t))) (getD t i 0 ∷ rest) rest
-  plain-run w p q = plain-part w ∙ (plain-cons w m (getD t i 0) (part (i + 1) e t) ∙ rw (p, eq-eqb (getD t i 0) 0x5F q) (go (isLinked m) (eqb (getD t i 0) 0x60) (eqb (getD t i 0) 0x2A)))
-    where
-      rest : List ℕ
-      rest = plainIn w (markupAfter m (getD t i 0)) (part (i + 1) e t)
+  pub plain-run : (w r : Bool) → stands m (getD t i 0) ≡ true → getD t i 0 ≡ 0x5F → r ≡ (w && follows (markupAfter m (getD t i 0)) (part (i + 1) e t))
+      → let rest = plainIn (wordBehind r (getD t i 0)) (markupAfter m (getD t i 0)) (part (i + 1) e t) in
+      plainIn w m (part i e t) ≡ cond (isText m (getD t i 0) || r) (getD t i 0 ∷ rest) rest
+  plain-run w r p q h =
+      plain-part w
+      ∙ (plain-cons w m (getD t i 0) (part (i + 1) e t)
+      ∙ rw (p, eq-eqb (getD t i 0) 0x5F q, h, judged w (cutFrom (markupAfter m (getD t i 0)) (part (i + 1) e t))))
 
-      f : Bool
-      f = follows (markupAfter m (getD t i 0)) (part (i + 1) e t)
-
-      go : (b y z : Bool) → cond ((b || not (y || (z || true))) || (w && f)) (getD t i 0 ∷ rest) rest ≡ cond (b || (w && f)) (getD t i 0 ∷ rest) rest
-      go true y z = refl
-      go false true z = refl
-      go false false true = refl
-      go false false false = refl
-
-  pub plain-other : (w : Bool) → stands m (getD t i 0) ≡ true → (getD t i 0 ≡ 0x5F → ⊥)
-      → let rest = plainIn (isWord (getD t i 0)) (markupAfter m (getD t i 0)) (part (i + 1) e t) in
-      plainIn w m (part i e t) ≡ cond (isLinked m || not (isMark (getD t i 0))) (getD t i 0 ∷ rest) rest
-  plain-other w p q = plain-part w ∙ (plain-cons w m (getD t i 0) (part (i + 1) e t) ∙ rw (p, ne-eqb (getD t i 0) 0x5F q, or-false (isLinked m || not (eqb (getD t i 0) 0x60 || (eqb (getD t i 0) 0x2A || false)))))
+  pub plain-other : (w v : Bool) → stands m (getD t i 0) ≡ true → (getD t i 0 ≡ 0x5F → ⊥)
+      → let rest = plainIn (wordBehind v (getD t i 0)) (markupAfter m (getD t i 0)) (part (i + 1) e t) in
+      plainIn w m (part i e t) ≡ cond (isText m (getD t i 0)) (getD t i 0 ∷ rest) rest
+  plain-other w v p q =
+      plain-part w
+      ∙ (plain-cons w m (getD t i 0) (part (i + 1) e t)
+      ∙ rw (p, ne-eqb (getD t i 0) 0x5F q, or-false (isLinked m || not (eqb (getD t i 0) 0x60 || (eqb (getD t i 0) 0x2A || false)))))
 
 pub follows-end : (m : Markup) (t : List ℕ) (i e : ℕ) → e ≤ i → follows m (part i e t) ≡ false
 follows-end m t i e h = ap (follows m) (part-none t i e h) ∙ follows-nil m

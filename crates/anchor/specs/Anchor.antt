@@ -12,8 +12,6 @@ use Rattle.text.specs.Ascii.{lower}
 use Rattle.anchor.specs.declared.AnchorCursor.{AnchorCursor}
 use Rattle.anchor.specs.declared.AnchorByte.{AnchorByte}
 use Rattle.anchor.specs.declared.AnchorByte.the-variants.{Byte, End}
-use Rattle.anchor.specs.declared.Before.{Before}
-use Rattle.anchor.specs.declared.Before.the-variants.{Word, Run, Other}
 use Rattle.anchor.specs.declared.Markup.{Markup}
 use Rattle.anchor.specs.declared.Markup.the-variants.{Written, Bracket, Behind, Target}
 use Rattle.anchor.specs.declared.TextByte.{TextByte}
@@ -102,40 +100,37 @@ anchorOf (x ∷ s) = cond (isKept x) (lower x ∷ anchorOf s) (cond (eqb x 0x20)
 unfoldable pub slug : List ℕ → List ℕ
 slug t = anchorOf (trim (plain t))
 
--- By the bytes of a text whose links are not cut: whether one is left without the markup, and whether a letter or digit stands directly before the next
+-- By the bytes of a text whose links are not cut: whether one is text where no run stays, whether it is left without the markup, and whether a letter or digit stands directly before the next
+abbrev pub isText : Markup → ℕ → Bool
+isText m x = stands m x && shows (cutByte m x)
+
 abbrev pub isShown : Bool → Markup → ℕ → List ℕ → Bool
 isShown before m x s = stands m x && (shows (cutByte m x) || stays before x (cutFrom (markupAfter m x) s))
 
 abbrev pub wordAfter : Bool → Markup → ℕ → Bool
 wordAfter before m x = cond (stands m x) (wordBehind before x) before
 
--- For the cursor: what is left of the text without its markup. A run of underscores that stays has a letter or digit before it.
-unfoldable pub isRun : Before → Bool
-isRun Word = false
-isRun Run = true
-isRun Other = false
-
-unfoldable pub isBehindWord : Before → Bool
-isBehindWord Word = true
-isBehindWord Run = true
-isBehindWord Other = false
-
+-- For the cursor: what is left of the text once links are cut, and without its markup
 abbrev pub cutLeft : AnchorCursor → List ℕ → List Cut
 cutLeft c t = cutFrom (c .markup) (part (c .at) (c .end) t)
 
+-- whether a letter or digit stands directly before it: told by the byte there or, where that is an underscore, by whether its run stays
+abbrev pub isBehindWord : AnchorCursor → Bool
+isBehindWord c = cond (eqb (c .last) 0x5F) (c .stays) (isWord (c .last))
+
 abbrev pub plainLeft : AnchorCursor → List ℕ → List ℕ
-plainLeft c t = plainFrom (isBehindWord (c .before)) (cutLeft c t)
+plainLeft c t = plainFrom (isBehindWord c) (cutLeft c t)
 
 -- what is left of an anchor
 abbrev pub anchorFrom : AnchorCursor → List ℕ → List ℕ
 anchorFrom c t = anchorOf (plainLeft c t)
 
 -- a run of underscores that stays has a letter or digit after it
-abbrev pub RunStays : Before → List Cut → Type 0
-RunStays b s = isRun b ≡ true → wordFollows s ≡ true
+abbrev pub RunStays : AnchorCursor → List ℕ → Type 0
+RunStays c t = (eqb (c .last) 0x5F && c .stays) ≡ true → wordFollows (cutLeft c t) ≡ true
 
 abbrev pub CursorWithin : AnchorCursor → List ℕ → Type 0
-CursorWithin c t = ((c .at ≤ c .end) × (c .end ≤ length t)) × RunStays (c .before) (cutLeft c t)
+CursorWithin c t = ((c .at ≤ c .end) × (c .end ≤ length t)) × RunStays c t
 
 -- a byte of the text is read: whether it is shown, and what is left after it
 abbrev pub ReadByte : List ℕ → AnchorCursor → TextByte → Type 0
@@ -150,7 +145,7 @@ NextByte t c End = anchorFrom c t ≡ []
 
 -- whether a byte is text and no space byte; an underscore that stays never stands at an end of the text
 abbrev pub isSeen : Markup → ℕ → Bool
-isSeen m x = (stands m x && shows (cutByte m x)) && not (isSpace x)
+isSeen m x = isText m x && not (isSpace x)
 
 -- the place after the last byte of t that is text and no space byte, n bytes standing before t
 unfoldable pub plainEndFrom : Markup → ℕ → ℕ → List ℕ → ℕ

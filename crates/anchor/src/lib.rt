@@ -4,9 +4,8 @@ ghost use mathlib.Core.List.{List, _∷_};
 ghost use mathlib.Core.Path.{_≡_};
 ghost use Prim.Native.Nat.{ℕ, _≤_, _<_};
 ghost use lib.ListN.{length};
-ghost use Rattle.text.specs.Bytes.{part};
 ghost use Rattle.text.specs.Pattern.{equals as equalsTo};
-ghost use Rattle.anchor.specs.Anchor.{stands as standsIn, isLinked, markupAfter, isMark, isSeen, isWord, isKept, cutFrom, cutLeft, plainFrom, wordFollows, isRun, isBehindWord, RunStays, slug, anchorFrom, CursorWithin, ReadByte, NextByte, plainEnd, anchorOf, stirred, numberFrom, anchorNumber};
+ghost use Rattle.anchor.specs.Anchor.{stands as standsIn, markupAfter, isMark, isText, isSeen, isWord, isKept, cutLeft, wordFollows, isBehindWord, slug, anchorFrom, CursorWithin, ReadByte, NextByte, plainEnd, anchorOf, stirred, numberFrom, anchorNumber};
 use text::ascii;
 use text::space;
 
@@ -22,22 +21,13 @@ pub enum Markup {
     Target,
 }
 
-// What stands directly before a byte once links are cut to their text.
-pub enum Before {
-    // A letter or digit.
-    Word,
-    // A run of underscores that stays.
-    Run,
-    // Anything else, or nothing.
-    Other,
-}
-
-// What is left of an anchor: from a place up to another, the first byte standing in this markup and behind this.
+// What is left of an anchor: from a place up to another, the first byte standing in this markup. `last` is the byte directly before it once links are cut to their text; where that is an underscore, `stays` says whether its run stays.
 pub struct AnchorCursor {
     pub at: usize,
     pub end: usize,
     pub markup: Markup,
-    pub before: Before,
+    pub last: u8,
+    pub stays: bool,
 }
 
 pub enum AnchorByte {
@@ -69,14 +59,14 @@ fn stands(markup: Markup, b: u8) -> bool
     }
 }
 
-// Whether a byte stands in the text of a link.
-fn is_linked(markup: Markup) -> bool
-    ensures { λ r. ⌜ r ≡ isLinked markup ⌝ }
+// Whether a byte is text and no markup, where no run of underscores stays.
+fn is_text(markup: Markup, b: u8) -> bool
+    ensures { λ r. ⌜ r ≡ isText markup b ⌝ }
 {
     match markup {
-        Markup::Written => false,
-        Markup::Bracket => true,
-        Markup::Behind => false,
+        Markup::Written => !(b == b'[') & !is_mark(b),
+        Markup::Bracket => !(b == b']'),
+        Markup::Behind => !((b == b'(') | (b == b'[')) & !is_mark(b),
         Markup::Target => false,
     }
 }
@@ -135,7 +125,7 @@ fn is_kept(b: u8) -> bool
 fn is_seen(markup: Markup, b: u8) -> bool
     ensures { λ r. ⌜ r ≡ isSeen markup b ⌝ }
 {
-    (stands(markup, b) & (is_linked(markup) | !is_mark(b))) & !space::is_space(b)
+    is_text(markup, b) & !space::is_space(b)
 }
 
 // Where the trimmed text ends: after the last byte that is text and no space byte.
@@ -171,7 +161,8 @@ pub fn start(text: &[u8]) -> AnchorCursor
                 at: i,
                 end,
                 markup,
-                before: Before::Other,
+                last: 0,
+                stays: false,
             };
         }
         markup = markup_after(markup, b);
@@ -181,7 +172,8 @@ pub fn start(text: &[u8]) -> AnchorCursor
         at: i,
         end,
         markup,
-        before: Before::Other,
+        last: 0,
+        stays: false,
     }
 }
 
@@ -204,44 +196,18 @@ fn word_follows(text: &[u8], from: AnchorCursor) -> bool
     false
 }
 
-// What stands before a cursor that is behind an underscore, before which stands what the cursor says. Whether a run stays is looked for once, at its first underscore.
-fn behind_underscore(text: &[u8], from: AnchorCursor) -> Before
+// Whether the run of an underscore stays, this being left behind it, with the byte before it. What stands after a run is looked for once, at its first underscore.
+fn run_stays(text: &[u8], from: AnchorCursor) -> bool
     requires { ⌜ CursorWithin from (now text) ⌝ }
-    ensures { λ r. ⌜ isRun r ≡ (isBehindWord (from .before) && wordFollows (cutLeft from (now (text .entry)))) ⌝ }
-    ensures { λ r. ⌜ plainFrom (isBehindWord r) (cutLeft from (now (text .entry))) ≡ plainFrom (isBehindWord (from .before)) (cutLeft from (now (text .entry))) ⌝ }
-    ensures { λ r. ⌜ RunStays r (cutLeft from (now (text .entry))) ⌝ }
+    ensures { λ r. ⌜ r ≡ (isBehindWord from && wordFollows (cutLeft from (now (text .entry)))) ⌝ }
 {
-    let before = from.before;
-    match before {
-        Before::Word => {
-            if word_follows(text, from) {
-                return Before::Run;
-            }
-            Before::Other
-        }
-        Before::Run => Before::Run,
-        Before::Other => Before::Other,
+    if from.last == b'_' {
+        return from.stays;
     }
-}
-
-fn is_run(before: Before) -> bool
-    ensures { λ r. ⌜ r ≡ isRun before ⌝ }
-{
-    match before {
-        Before::Word => false,
-        Before::Run => true,
-        Before::Other => false,
+    if is_word(from.last) {
+        return word_follows(text, from);
     }
-}
-
-// What stands before a byte that follows b, which is no underscore.
-fn behind_byte(b: u8) -> Before
-    ensures { λ r. ⌜ (isBehindWord r ≡ isWord b) × (isRun r ≡ false) ⌝ }
-{
-    if is_word(b) {
-        return Before::Word;
-    }
-    Before::Other
+    false
 }
 
 // Reads the byte at a cursor.
@@ -251,42 +217,29 @@ fn read(text: &[u8], from: AnchorCursor) -> TextByte
 {
     let i = from.at;
     let b = text[i];
-    let at = i + 1;
-    let end = from.end;
     let here = from.markup;
-    let before = from.before;
+    let shown = is_text(here, b);
     let markup = markup_after(here, b);
-    let rest = AnchorCursor {
-        at,
-        end,
+    let mut rest = AnchorCursor {
+        at: i + 1,
+        end: from.end,
         markup,
-        before,
+        last: from.last,
+        stays: from.stays,
     };
     if !stands(here, b) {
         return TextByte { shown: false, rest };
     }
-    let linked = is_linked(here);
-    if b == b'_' {
-        let before = behind_underscore(text, rest);
-        return TextByte {
-            shown: linked | is_run(before),
-            rest: AnchorCursor {
-                at,
-                end,
-                markup,
-                before,
-            },
-        };
+    if b != b'_' {
+        rest.last = b;
+        return TextByte { shown, rest };
     }
-    let before = behind_byte(b);
+    let stays = run_stays(text, rest);
+    rest.last = b;
+    rest.stays = stays;
     TextByte {
-        shown: linked | !is_mark(b),
-        rest: AnchorCursor {
-            at,
-            end,
-            markup,
-            before,
-        },
+        shown: shown | stays,
+        rest,
     }
 }
 

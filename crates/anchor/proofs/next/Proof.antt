@@ -72,7 +72,7 @@ loop-again-2 c =
 returns-3 : tie.Need-returns-3 Inv-loop μ-loop
 returns-3 c =
     let l = c .before .before .loop in
-    l .inv .1 .1 ∙ (ap anchorOf (plain-none (isBehindWord (l .c .before)) (l .c .markup) (c .before .before .before .before .args .text .now) (l .c .at) (l .c .end) (omega arith)) ∙ anchor-nil)
+    l .inv .1 .1 ∙ (ap anchorOf (plain-none (isBehindWord (l .c)) (l .c .markup) (c .before .before .before .before .args .text .now) (l .c .at) (l .c .end) (omega arith)) ∙ anchor-nil)
 
 pub next-spec : {M : Type 1} → statement M
 next-spec =

@@ -45,7 +45,7 @@ unfolding numberFrom
 returns c =
     let l = c .before .before .loop in
     let t = c .before .before .before .before .before .args .text .now in
-    (ap (numberFrom (l .n)) (sym (ap anchorOf (plain-none (isBehindWord (l .c .before)) (l .c .markup) t (l .c .at) (l .c .end) (omega arith)) ∙ anchor-nil)) ∙ l .inv .1 .1, l .inv .0)
+    (ap (numberFrom (l .n)) (sym (ap anchorOf (plain-none (isBehindWord (l .c)) (l .c .markup) t (l .c .at) (l .c .end) (omega arith)) ∙ anchor-nil)) ∙ l .inv .1 .1, l .inv .0)
 
 pub number-of-spec : {M : Type 1} → statement M
 number-of-spec =

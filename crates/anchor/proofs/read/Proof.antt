@@ -1,9 +1,12 @@
 -- `anchor::read` meets its contract: by whether the byte stands and is an underscore. Assumes nothing.
 use native.Mathlib.Omega.{arith}
 use mathlib.Core.Bool.{false≢true}
+use lib.ListN.{getD}
+use lib.Dec.{eqb}
 use mathlib.Core.Path.{_≡_, refl, sym, _∙_}
 use borrow.Author.Needs.{needs}
-use borrow.Author.Tests.{not-true, not-false}
+use borrow.Author.Tests.{not-true, not-false, ne-eqb}
+use Rattle.text.proofs.PatternLaws.{and-left, and-right}
 use Rattle.anchor.specs.Anchor.{isBehindWord}
 use Rattle.anchor.proofs.AnchorLaws.{follows-cut, follows-run, plain-cut, plain-run, plain-other}
 use Rattle.anchor.proofs.read.Statement.{statement}
@@ -12,60 +15,52 @@ use Rattle.anchor.proofs.read.Tie as tie
 shared-slice-read-b : tie.Need-shared-slice-read-b
 shared-slice-read-b c = omega arith
 
-add-at : tie.Need-add-at
-add-at c = omega arith
+is-text-requires : tie.Need-is-text-requires
+is-text-requires c κs = search needs
 
 markup-after-requires : tie.Need-markup-after-requires
 markup-after-requires c κs = search needs
+
+add-t12 : tie.Need-add-t12
+add-t12 c = omega arith
 
 stands-requires : tie.Need-stands-requires
 stands-requires c κs = search needs
 
 returns : tie.Need-returns
 returns c =
-    let a = c .before .before .before .before .before .args in
+    let a = c .before .before .before .before .before .before .args in
     let f = a .from in
     let p = sym (c .before .stands .ensures) ∙ not-true _ (c .if1 .taken) in (
-      rw (c .before .before .markup-after .ensures) (plain-cut (f .markup) (a .text .now) (f .at) (f .end) (omega arith) (omega arith) (isBehindWord (f .before)) p),
-      (refl, (refl, ((omega arith, omega arith), λ h. rw (c .before .before .markup-after .ensures) (sym (follows-cut (f .markup) (a .text .now) (f .at) (f .end) (omega arith) (omega arith) p) ∙ c .before .before .before .before .before .pre .0 .1 h)))),
+      rw (c .before .before .markup-after .ensures) (plain-cut (f .markup) (a .text .now) (f .at) (f .end) (omega arith) (omega arith) (isBehindWord f) p),
+      (refl, (refl, ((omega arith, omega arith), λ h. rw (c .before .before .markup-after .ensures) (sym (follows-cut (f .markup) (a .text .now) (f .at) (f .end) (omega arith) (omega arith) p) ∙ c .before .before .before .before .before .before .pre .0 .1 h)))),
     )
-
-is-linked-requires : tie.Need-is-linked-requires
-is-linked-requires c κs = search needs
-
-behind-underscore-requires : tie.Need-behind-underscore-requires
-behind-underscore-requires c κs =
-    let a = c .before .before .before .before .before .before .before .args in
-    let f = a .from in
-    ((omega arith, omega arith), λ h. rw (c .before .before .before .before .markup-after .ensures) (sym (follows-run (f .markup) (a .text .now) (f .at) (f .end) (omega arith) (omega arith) (c .if2 .taken)) ∙ c .before .before .before .before .before .before .before .pre .0 .1 h))
-
-is-run-requires : tie.Need-is-run-requires
-is-run-requires c κs = search needs
 
 returns-2 : tie.Need-returns-2
 returns-2 c =
-    let a = c .before .before .before .before .before .before .before .before .before .args in
+    let a = c .before .before .before .before .before .before .before .args in
     let f = a .from in
-    let p = sym (c .before .before .before .before .before .stands .ensures) ∙ not-false _ (c .before .before .before .before .if1 .left) in (
-      rw (c .before .before .before .is-linked .ensures, c .is-run .ensures, c .before .behind-underscore .ensures .0, c .before .behind-underscore .ensures .1 .0, c .before .before .before .before .before .before .markup-after .ensures)
-          (plain-run (f .markup) (a .text .now) (f .at) (f .end) (omega arith) (omega arith) (isBehindWord (f .before)) p (c .before .before .if2 .taken)),
-      (refl, (refl, ((omega arith, omega arith), c .before .behind-underscore .ensures .1 .1))),
+    let p = sym (c .before .before .stands .ensures) ∙ not-false _ (c .before .if1 .left) in (
+      rw (c .before .before .before .before .is-text .ensures, c .before .before .before .markup-after .ensures)
+          (plain-other (f .markup) (a .text .now) (f .at) (f .end) (omega arith) (omega arith) (isBehindWord f) (f .stays) p (c .if2 .taken)),
+      (refl, (refl, ((omega arith, omega arith), λ h. absurd (false≢true (sym (ne-eqb _ 0x5F (c .if2 .taken)) ∙ and-left _ _ h))))),
     )
 
-behind-byte-requires : tie.Need-behind-byte-requires
-behind-byte-requires c κs = search needs
-
-is-mark-requires : tie.Need-is-mark-requires
-is-mark-requires c κs = search needs
+run-stays-requires : tie.Need-run-stays-requires
+run-stays-requires c κs =
+    let a = c .before .before .before .before .before .before .before .args in
+    let f = a .from in
+    ((omega arith, omega arith), λ h. rw (c .before .before .before .markup-after .ensures) (sym (follows-run (f .markup) (a .text .now) (f .at) (f .end) (omega arith) (omega arith) (c .if2 .left)) ∙ c .before .before .before .before .before .before .before .pre .0 .1 h))
 
 returns-3 : tie.Need-returns-3
 returns-3 c =
-    let a = c .before .before .before .before .before .before .before .before .before .args in
+    let a = c .before .before .before .before .before .before .before .before .args in
     let f = a .from in
-    let p = sym (c .before .before .before .before .before .stands .ensures) ∙ not-false _ (c .before .before .before .before .if1 .left) in (
-      rw (c .before .before .before .is-linked .ensures, c .is-mark .ensures, c .before .behind-byte .ensures .0, c .before .before .before .before .before .before .markup-after .ensures)
-          (plain-other (f .markup) (a .text .now) (f .at) (f .end) (omega arith) (omega arith) (isBehindWord (f .before)) p (c .before .before .if2 .left)),
-      (refl, (refl, ((omega arith, omega arith), λ h. absurd (false≢true (sym (c .before .behind-byte .ensures .1) ∙ h))))),
+    let p = sym (c .before .before .before .stands .ensures) ∙ not-false _ (c .before .before .if1 .left) in
+    let r = rw (c .before .before .before .before .markup-after .ensures) at (c .run-stays .ensures) in (
+      rw (c .before .before .before .before .before .is-text .ensures, c .before .before .before .before .markup-after .ensures)
+          (plain-run (f .markup) (a .text .now) (f .at) (f .end) (omega arith) (omega arith) (isBehindWord f) (c .run-stays .result) p (c .before .if2 .left) r),
+      (refl, (refl, ((omega arith, omega arith), λ h. and-right (isBehindWord f) _ (sym (c .run-stays .ensures) ∙ and-right (eqb (getD (a .text .now) (f .at) 0) 0x5F) _ h)))),
     )
 
 pub read-spec : {M : Type 1} → statement M
@@ -73,14 +68,11 @@ read-spec =
     tie.close
     (tie.spec
     shared-slice-read-b
-    add-at
+    is-text-requires
     markup-after-requires
+    add-t12
     stands-requires
     returns
-    is-linked-requires
-    behind-underscore-requires
-    is-run-requires
     returns-2
-    behind-byte-requires
-    is-mark-requires
+    run-stays-requires
     returns-3)

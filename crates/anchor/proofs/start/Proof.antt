@@ -5,8 +5,9 @@ use mathlib.Core.Bool.{false, false≢true}
 use lib.ListN.{length, drop}
 use native.Mathlib.Omega.{arith}
 use borrow.Author.Needs.{needs}
+use Rattle.text.specs.Ascii.{lower}
 use Rattle.text.specs.Space.{trim}
-use Rattle.anchor.specs.Anchor.{plain, plainEndFrom, anchorOf, slug, isRun, isBehindWord}
+use Rattle.anchor.specs.Anchor.{plain, plainEndFrom, anchorOf, slug}
 use Rattle.anchor.proofs.AnchorLaws.{plainIn, end-on, start-on, start-here, start-nowhere}
 use Rattle.anchor.proofs.start.Statement.{statement}
 use Rattle.anchor.proofs.start.Tie as tie
@@ -30,7 +31,7 @@ is-seen-requires : tie.Need-is-seen-requires Inv-loop μ-loop
 is-seen-requires c κs = search needs
 
 returns : tie.Need-returns Inv-loop μ-loop
-unfolding slug isRun isBehindWord
+unfolding slug lower
 returns c =
     let l = c .before .before .before .before .loop in
     let s = c .before .before .before .before .before .before .before .args .text .now in
@@ -62,7 +63,7 @@ loop-again c =
     )
 
 returns-2 : tie.Need-returns-2 Inv-loop μ-loop
-unfolding slug isRun isBehindWord
+unfolding slug lower
 returns-2 c =
     let l = c .before .loop in
     let s = c .before .before .before .before .args .text .now in
