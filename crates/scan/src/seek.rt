@@ -34,7 +34,7 @@ fn has_trace(s: &[u8]) -> bool
     hit
 }
 
-// Whether a hint stands in s, looked for in each place.
+// Whether a hint stands in s, looked for in each place: for a short text, or one with a trace.
 fn find_hint(s: &[u8]) -> bool
     ensures { λ r. ⌜ r ≡ anyThree hint (now (s .entry)) ⌝ }
 {
@@ -51,7 +51,7 @@ fn find_hint(s: &[u8]) -> bool
     hit
 }
 
-// Whether a hint stands in s.
+// Whether a hint stands in s: mostly the quicker test tells that none does.
 fn has_hint(s: &[u8]) -> bool
     ensures { λ r. ⌜ r ≡ anyThree hint (now (s .entry)) ⌝ }
 {
@@ -74,7 +74,7 @@ fn skip_blocks(s: &[u8], from: usize) -> usize
         }
         i += 64;
     }
-    if has_hint(&s[i..]) {
+    if find_hint(&s[i..]) {
         return i;
     }
     s.len()
