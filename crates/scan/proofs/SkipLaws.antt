@@ -11,6 +11,7 @@ use mathlib.Core.List.{List, [], _∷_, _++_, append-nil}
 use lib.ListN.{length, take, drop, getD, length-drop}
 use lib.Seq.{drop-cons, drop-drop, take-take, take-nil}
 use lib.Dec.{eqb}
+use lib.Bits.{bitXor}
 use borrow.Author.Tests.{eqb-true}
 use Rattle.text.specs.Bytes.{part, is, count, afterLast}
 use Rattle.text.specs.Pattern.{startsWith, find, isAt, contains}
@@ -21,7 +22,7 @@ use Rattle.text.proofs.BytesLaws.{part-length, or-left, or-right, rest, after-l
 use Rattle.text.proofs.LineLaws.{lines-step, lines-at, line-within, lines-length, lines-split-at, lines-skipped-at}
 use Rattle.fence.specs.Fences.{isFence}
 use Rattle.marker.specs.Marker.{OPEN}
-use Rattle.scan.specs.Skip.{anyThree, hint, allPlain, Skipped}
+use Rattle.scan.specs.Skip.{anyThree, hint, trace, allPlain, Skipped}
 
 or-none : (a b : Bool) → a ≡ false → b ≡ false → (a || b) ≡ false
 or-none true b e d = e
@@ -147,10 +148,44 @@ module _ (g : ℕ → ℕ → ℕ → Bool) where
       go true false t i j k = refl
       go false r t i j k = refl
 
-  pub three-find : (a b c : ℕ) (p l : List ℕ) → g a b c ≡ true → anyThree g l ≡ false → find (a ∷ b ∷ c ∷ p) l ≡ Nothing
+  -- nor one that has one after other bytes q
+  three-starts-in : (q : List ℕ) (a b c : ℕ) (p l : List ℕ) → g a b c ≡ true → anyThree g l ≡ false → startsWith (q ++ a ∷ b ∷ c ∷ p) l ≡ false
+  unfolding startsWith
+  three-starts-in [] a b c p l h e = three-starts a b c p l h e
+  three-starts-in (d ∷ q) a b c p [] h e = refl
+  three-starts-in (d ∷ q) a b c p (x ∷ l) h e = rw (three-starts-in q a b c p l h (three-tail x l e)) (and-false (eqb x d))
+
+  pub three-find : (q : List ℕ) (a b c : ℕ) (p l : List ℕ) → g a b c ≡ true → anyThree g l ≡ false → find (q ++ a ∷ b ∷ c ∷ p) l ≡ Nothing
   unfolding find
-  three-find a b c p [] h e = rw (three-starts a b c p [] h e)
-  three-find a b c p (x ∷ l) h e = rw (three-starts a b c p (x ∷ l) h e, three-find a b c p l h (three-tail x l e))
+  three-find q a b c p [] h e = rw (three-starts-in q a b c p [] h e)
+  three-find q a b c p (x ∷ l) h e = rw (three-starts-in q a b c p (x ∷ l) h e, three-find q a b c p l h (three-tail x l e))
+
+  -- a test that passes less finds no more
+  three-fewer : (f : ℕ → ℕ → ℕ → Bool) → ((x y z : ℕ) → g x y z ≡ false → f x y z ≡ false) → (l : List ℕ) → anyThree g l ≡ false → anyThree f l ≡ false
+  unfolding anyThree
+  three-fewer f less [] e = refl
+  three-fewer f less (x ∷ []) e = refl
+  three-fewer f less (x ∷ y ∷ []) e = refl
+  three-fewer f less (x ∷ y ∷ z ∷ l) e =
+      or-none (f x y z) (anyThree f (y ∷ z ∷ l)) (less x y z (or-left (g x y z) (anyThree g (y ∷ z ∷ l)) e))
+      (three-fewer f less (y ∷ z ∷ l) (or-right (g x y z) (anyThree g (y ∷ z ∷ l)) e))
+
+-- a hint leaves its trace
+traced : (x y z : ℕ) → trace x y z ≡ false → hint x y z ≡ false
+traced x y z e = go (eqb x 0x2D) (eqb z 0x5B) refl refl
+  where
+    marks : (eqb x 0x60 || eqb x 0x7E) ≡ false
+    marks = or-left (eqb x 0x60 || eqb x 0x7E) (eqb (bitXor x z) 0x76) e
+
+    go : (q r : Bool) → eqb x 0x2D ≡ q → eqb z 0x5B ≡ r → (eqb x y && ((eqb x z && (eqb x 0x60 || eqb x 0x7E)) || (q && r))) ≡ false
+    go true true i j =
+        let d : eqb (bitXor x z) 0x76 ≡ false = or-right (eqb x 0x60 || eqb x 0x7E) (eqb (bitXor x z) 0x76) e in
+        absurd (false≢true (sym (rw (eqb-true x 0x2D i, eqb-true z 0x5B j) at d)))
+    go true false i j = rw (marks, and-false (eqb x z)) (and-false (eqb x y))
+    go false r i j = rw (marks, and-false (eqb x z)) (and-false (eqb x y))
+
+pub no-trace : (l : List ℕ) → anyThree trace l ≡ false → anyThree hint l ≡ false
+no-trace l e = three-fewer trace hint traced l e
 
 -- so a line without a hint is no fence and holds no marker
 pub plain-line : (l : List ℕ) → anyThree hint l ≡ false → (isFence l ≡ false) × (contains OPEN l ≡ false)
@@ -158,7 +193,7 @@ unfolding isFence trimStart
 plain-line l e =
     let d : anyThree hint (drop (lead l) l) ≡ false = three-drop hint (lead l) l e in (
       rw (three-starts hint 0x60 0x60 0x60 [] (drop (lead l) l) refl d) (three-starts hint 0x7E 0x7E 0x7E [] (drop (lead l) l) refl d),
-      ap isAt (three-find hint 0x3C 0x21 0x2D (0x2D ∷ 0x5B ∷ []) l refl e),
+      ap isAt (three-find hint (0x3C ∷ 0x21 ∷ []) 0x2D 0x2D 0x5B [] l refl e),
     )
 
 -- and a text without one has plain lines only

@@ -5,6 +5,7 @@ use mathlib.Core.Bool.{Bool, true, false, not, _&&_, _||_}
 use mathlib.Core.List.{List, [], _∷_, _++_}
 use lib.ListN.{length, drop}
 use lib.Dec.{eqb}
+use lib.Bits.{bitXor}
 use Rattle.text.specs.Bytes.{part}
 use Rattle.text.specs.Pattern.{contains}
 use Rattle.text.specs.Lines.{Line, linesFrom}
@@ -20,9 +21,13 @@ anyThree g (x ∷ []) = false
 anyThree g (x ∷ y ∷ []) = false
 anyThree g (x ∷ y ∷ z ∷ s) = g x y z || anyThree g (y ∷ z ∷ s)
 
--- a backtick or a tilde between two like bytes, as in three of them, or `<!`: a line without these is no fence and holds no marker
+-- three backticks, three tildes or `--[`: a line without these is no fence and holds no marker
 abbrev pub hint : ℕ → ℕ → ℕ → Bool
-hint x y z = (eqb x z && (eqb y 0x60 || eqb y 0x7E)) || (eqb x 0x3C && eqb y 0x21)
+hint x y z = eqb x y && ((eqb x z && (eqb x 0x60 || eqb x 0x7E)) || (eqb x 0x2D && eqb z 0x5B))
+
+-- what its first and third byte show of a hint
+abbrev pub trace : ℕ → ℕ → ℕ → Bool
+trace x y z = (eqb x 0x60 || eqb x 0x7E) || eqb (bitXor x z) 0x76
 
 -- whether no line of ls is a fence or holds a marker
 unfoldable pub allPlain : List Line → Bool

@@ -1,10 +1,10 @@
-// The lines that a scan has to look at. Most lines have neither `<!` nor a backtick or tilde between two like bytes, and are skipped by blocks.
+// The lines that a scan has to look at. Most lines have neither `--[` nor three backticks or tildes, and are skipped by blocks.
 ghost use mathlib.Core.Path.{_≡_};
 ghost use mathlib.Core.Bool.{false};
 ghost use Prim.Native.Nat.{_-_, _≤_};
 ghost use lib.ListN.{length};
 ghost use Rattle.text.specs.Bytes.{part};
-ghost use Rattle.scan.specs.Skip.{anyThree, hint, Sought};
+ghost use Rattle.scan.specs.Skip.{anyThree, trace, hint, Sought};
 use text::bytes;
 use text::lines;
 
@@ -19,8 +19,23 @@ pub enum Seek {
     TextEnd,
 }
 
-// Whether a hint stands in s.
-fn has_hint(s: &[u8]) -> bool
+// Whether the trace of a hint stands in s: a quicker test, which reads two bytes of three.
+fn has_trace(s: &[u8]) -> bool
+    ensures { λ r. ⌜ r ≡ anyThree trace (now (s .entry)) ⌝ }
+{
+    let mut hit = false;
+    let mut j = 0;
+    while 2 < s.len() - j {
+        let x = s[j];
+        let z = s[j + 2];
+        hit = hit | (((x == b'`') | (x == b'~')) | ((x ^ z) == 0x76));
+        j += 1;
+    }
+    hit
+}
+
+// Whether a hint stands in s, looked for in each place: for a short text, or one with a trace.
+fn find_hint(s: &[u8]) -> bool
     ensures { λ r. ⌜ r ≡ anyThree hint (now (s .entry)) ⌝ }
 {
     let mut hit = false;
@@ -29,10 +44,21 @@ fn has_hint(s: &[u8]) -> bool
         let x = s[j];
         let y = s[j + 1];
         let z = s[j + 2];
-        hit = hit | (((x == z) & ((y == b'`') | (y == b'~'))) | ((x == b'<') & (y == b'!')));
+        hit = hit
+            | ((x == y) & (((x == z) & ((x == b'`') | (x == b'~'))) | ((x == b'-') & (z == b'['))));
         j += 1;
     }
     hit
+}
+
+// Whether a hint stands in s: mostly the quicker test tells that none does.
+fn has_hint(s: &[u8]) -> bool
+    ensures { λ r. ⌜ r ≡ anyThree hint (now (s .entry)) ⌝ }
+{
+    if has_trace(s) {
+        return find_hint(s);
+    }
+    false
 }
 
 // A place from a place on up to which no hint stands: the start of a block that has one, or the length.
@@ -48,7 +74,7 @@ fn skip_blocks(s: &[u8], from: usize) -> usize
         }
         i += 64;
     }
-    if has_hint(&s[i..]) {
+    if find_hint(&s[i..]) {
         return i;
     }
     s.len()

@@ -55,17 +55,17 @@ loop-less c = omega arith
 loop-again : tie.Need-loop-again Inv-loop μ-loop
 loop-again c = (omega arith, (omega arith, three-block hint (c .before .before .before .before .before .before .args .s .now) (c .before .before .before .before .before .before .args .from) (c .before .before .before .before .loop .i) 64 (omega arith) (c .before .before .before .before .loop .inv .1 .1) (sym (c .before .has-hint .ensures) ∙ c .if1 .left)))
 
-sub-has-hint-2 : tie.Need-sub-has-hint-2 Inv-loop μ-loop
-sub-has-hint-2 c = omega arith
+sub-find-hint : tie.Need-sub-find-hint Inv-loop μ-loop
+sub-find-hint c = omega arith
 
-part-has-hint-start-2 : tie.Need-part-has-hint-start-2 Inv-loop μ-loop
-part-has-hint-start-2 c = omega arith
+part-find-hint-start : tie.Need-part-find-hint-start Inv-loop μ-loop
+part-find-hint-start c = omega arith
 
-part-has-hint-end-2 : tie.Need-part-has-hint-end-2 Inv-loop μ-loop
-part-has-hint-end-2 c = omega arith
+part-find-hint-end : tie.Need-part-find-hint-end Inv-loop μ-loop
+part-find-hint-end c = omega arith
 
-has-hint-requires-2 : tie.Need-has-hint-requires-2 Inv-loop μ-loop
-has-hint-requires-2 c κs = search needs
+find-hint-requires : tie.Need-find-hint-requires Inv-loop μ-loop
+find-hint-requires c κs = search needs
 
 returns-2 : tie.Need-returns-2 Inv-loop μ-loop
 returns-2 c =
@@ -77,7 +77,7 @@ returns-3 : tie.Need-returns-3 Inv-loop μ-loop
 returns-3 c =
     let a = c .before .before .before .before .before .before .args in
     let l = c .before .before .before .before .loop in
-    (omega arith, (omega arith, three-joined hint (a .s .now) (a .from) (l .i) (length (a .s .now)) (omega arith) (omega arith) (l .inv .1 .1) (sym (c .before .has-hint2 .ensures) ∙ c .if2 .left)))
+    (omega arith, (omega arith, three-joined hint (a .s .now) (a .from) (l .i) (length (a .s .now)) (omega arith) (omega arith) (l .inv .1 .1) (sym (c .before .find-hint .ensures) ∙ c .if2 .left)))
 
 pub skip-blocks-spec : {M : Type 1} → statement M
 skip-blocks-spec =
@@ -96,9 +96,9 @@ skip-blocks-spec =
     add-i
     loop-less
     loop-again
-    sub-has-hint-2
-    part-has-hint-start-2
-    part-has-hint-end-2
-    has-hint-requires-2
+    sub-find-hint
+    part-find-hint-start
+    part-find-hint-end
+    find-hint-requires
     returns-2
     returns-3)
