@@ -25,7 +25,7 @@ anyThree g (x ∷ y ∷ z ∷ s) = g x y z || anyThree g (y ∷ z ∷ s)
 abbrev pub hint : ℕ → ℕ → ℕ → Bool
 hint x y z = eqb x y && ((eqb x z && (eqb x 0x60 || eqb x 0x7E)) || (eqb x 0x2D && eqb z 0x5B))
 
--- what its first and third byte show of a hint
+-- what the first and third byte show of a hint; `-` and `[` differ by 76 hex
 abbrev pub trace : ℕ → ℕ → ℕ → Bool
 trace x y z = (eqb x 0x60 || eqb x 0x7E) || eqb (bitXor x z) 0x76
 

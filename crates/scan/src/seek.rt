@@ -19,7 +19,7 @@ pub enum Seek {
     TextEnd,
 }
 
-// Whether the trace of a hint stands in s: a quicker test, which reads two bytes of three.
+// Whether the trace of a hint stands in s: a quicker test, which reads two bytes of three. `-` and `[` differ by 76 hex.
 fn has_trace(s: &[u8]) -> bool
     ensures { λ r. ⌜ r ≡ anyThree trace (now (s .entry)) ⌝ }
 {
@@ -34,8 +34,8 @@ fn has_trace(s: &[u8]) -> bool
     hit
 }
 
-// Whether a hint stands in s, looked for in each place: for a short text, or one with a trace.
-fn find_hint(s: &[u8]) -> bool
+// Whether a hint stands in s.
+fn has_hint(s: &[u8]) -> bool
     ensures { λ r. ⌜ r ≡ anyThree hint (now (s .entry)) ⌝ }
 {
     let mut hit = false;
@@ -51,12 +51,12 @@ fn find_hint(s: &[u8]) -> bool
     hit
 }
 
-// Whether a hint stands in s: mostly the quicker test tells that none does.
-fn has_hint(s: &[u8]) -> bool
+// The same for a block, where mostly the quicker test tells that none does.
+fn block_has_hint(s: &[u8]) -> bool
     ensures { λ r. ⌜ r ≡ anyThree hint (now (s .entry)) ⌝ }
 {
     if has_trace(s) {
-        return find_hint(s);
+        return has_hint(s);
     }
     false
 }
@@ -69,12 +69,12 @@ fn skip_blocks(s: &[u8], from: usize) -> usize
     let mut i = from;
     while 66 <= s.len() - i {
         let e = i + 66;
-        if has_hint(&s[i..e]) {
+        if block_has_hint(&s[i..e]) {
             return i;
         }
         i += 64;
     }
-    if find_hint(&s[i..]) {
+    if has_hint(&s[i..]) {
         return i;
     }
     s.len()

@@ -28,17 +28,17 @@ sub-loop c = omega arith
 add-e : tie.Need-add-e Inv-loop μ-loop
 add-e c = omega arith
 
-sub-has-hint : tie.Need-sub-has-hint Inv-loop μ-loop
-sub-has-hint c = omega arith
+sub-block-has-hint : tie.Need-sub-block-has-hint Inv-loop μ-loop
+sub-block-has-hint c = omega arith
 
-part-has-hint-start : tie.Need-part-has-hint-start Inv-loop μ-loop
-part-has-hint-start c = omega arith
+part-block-has-hint-start : tie.Need-part-block-has-hint-start Inv-loop μ-loop
+part-block-has-hint-start c = omega arith
 
-part-has-hint-end : tie.Need-part-has-hint-end Inv-loop μ-loop
-part-has-hint-end c = omega arith
+part-block-has-hint-end : tie.Need-part-block-has-hint-end Inv-loop μ-loop
+part-block-has-hint-end c = omega arith
 
-has-hint-requires : tie.Need-has-hint-requires Inv-loop μ-loop
-has-hint-requires c κs = search needs
+block-has-hint-requires : tie.Need-block-has-hint-requires Inv-loop μ-loop
+block-has-hint-requires c κs = search needs
 
 returns : tie.Need-returns Inv-loop μ-loop
 returns c =
@@ -53,19 +53,19 @@ loop-less : tie.Need-loop-less Inv-loop μ-loop
 loop-less c = omega arith
 
 loop-again : tie.Need-loop-again Inv-loop μ-loop
-loop-again c = (omega arith, (omega arith, three-block hint (c .before .before .before .before .before .before .args .s .now) (c .before .before .before .before .before .before .args .from) (c .before .before .before .before .loop .i) 64 (omega arith) (c .before .before .before .before .loop .inv .1 .1) (sym (c .before .has-hint .ensures) ∙ c .if1 .left)))
+loop-again c = (omega arith, (omega arith, three-block hint (c .before .before .before .before .before .before .args .s .now) (c .before .before .before .before .before .before .args .from) (c .before .before .before .before .loop .i) 64 (omega arith) (c .before .before .before .before .loop .inv .1 .1) (sym (c .before .block-has-hint .ensures) ∙ c .if1 .left)))
 
-sub-find-hint : tie.Need-sub-find-hint Inv-loop μ-loop
-sub-find-hint c = omega arith
+sub-has-hint : tie.Need-sub-has-hint Inv-loop μ-loop
+sub-has-hint c = omega arith
 
-part-find-hint-start : tie.Need-part-find-hint-start Inv-loop μ-loop
-part-find-hint-start c = omega arith
+part-has-hint-start : tie.Need-part-has-hint-start Inv-loop μ-loop
+part-has-hint-start c = omega arith
 
-part-find-hint-end : tie.Need-part-find-hint-end Inv-loop μ-loop
-part-find-hint-end c = omega arith
+part-has-hint-end : tie.Need-part-has-hint-end Inv-loop μ-loop
+part-has-hint-end c = omega arith
 
-find-hint-requires : tie.Need-find-hint-requires Inv-loop μ-loop
-find-hint-requires c κs = search needs
+has-hint-requires : tie.Need-has-hint-requires Inv-loop μ-loop
+has-hint-requires c κs = search needs
 
 returns-2 : tie.Need-returns-2 Inv-loop μ-loop
 returns-2 c =
@@ -77,7 +77,7 @@ returns-3 : tie.Need-returns-3 Inv-loop μ-loop
 returns-3 c =
     let a = c .before .before .before .before .before .before .args in
     let l = c .before .before .before .before .loop in
-    (omega arith, (omega arith, three-joined hint (a .s .now) (a .from) (l .i) (length (a .s .now)) (omega arith) (omega arith) (l .inv .1 .1) (sym (c .before .find-hint .ensures) ∙ c .if2 .left)))
+    (omega arith, (omega arith, three-joined hint (a .s .now) (a .from) (l .i) (length (a .s .now)) (omega arith) (omega arith) (l .inv .1 .1) (sym (c .before .has-hint .ensures) ∙ c .if2 .left)))
 
 pub skip-blocks-spec : {M : Type 1} → statement M
 skip-blocks-spec =
@@ -88,17 +88,17 @@ skip-blocks-spec =
     loop-holds
     sub-loop
     add-e
-    sub-has-hint
-    part-has-hint-start
-    part-has-hint-end
-    has-hint-requires
+    sub-block-has-hint
+    part-block-has-hint-start
+    part-block-has-hint-end
+    block-has-hint-requires
     returns
     add-i
     loop-less
     loop-again
-    sub-find-hint
-    part-find-hint-start
-    part-find-hint-end
-    find-hint-requires
+    sub-has-hint
+    part-has-hint-start
+    part-has-hint-end
+    has-hint-requires
     returns-2
     returns-3)
