@@ -10,9 +10,9 @@ use crate::walking::source::Source;
 /// A title that no generated text and no stored case has the anchor of.
 pub const FIRST: &str = "# q8q8q8";
 
-/// Titles with underscores, and the anchors that request 01 gives them; document 01's K4
+/// Titles with underscores, and the anchors that Req 01 gives them; document 01's K4
 /// comes last.
-pub const SAID: [(&str, &str); 22] = [
+pub const SAID: [(&str, &str); 29] = [
     ("weir_3", "weir_3"),
     ("WEIR__3 a_b_c", "weir__3-a_b_c"),
     ("_u_", "u"),
@@ -34,6 +34,13 @@ pub const SAID: [(&str, &str); 22] = [
     ("[a]_1", "a_1"),
     ("[a](x_1)_b", "a_b"),
     ("a_[b", "a_b"),
+    ("0_9", "0_9"),
+    ("A_z", "a_z"),
+    ("a_Z", "a_z"),
+    ("/_1", "1"),
+    ("1_:", "1"),
+    ("@_a", "a"),
+    ("a_{", "a"),
     ("[Rod](a.md) *q_1*", "rod-q_1"),
 ];
 

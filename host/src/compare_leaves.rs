@@ -14,7 +14,7 @@ use jilgyemot_host::spaced::Spaced;
 use leaf::checks::Checks;
 use leaf::links::Links;
 use leaf::regions::Regions;
-use leaf::titles::{Anchors, check_said};
+use leaf::titles::{Anchors, check_neighbours, check_said};
 use leaf::{Outcome, levels, lines, members, paths, walk};
 
 fn ascii(text: &[u8]) -> &str {
@@ -174,7 +174,7 @@ fn run(options: &Options) -> Outcome {
     let mut run = Run::new(options.seed);
     let mut cases = [0; PARTS];
     cases[0] += levels::check_all()?;
-    cases[1] += check_said()?;
+    cases[1] += check_said()? + check_neighbours()?;
     cases[6] += lines::check_all()?;
     while more(cases.iter().sum()) {
         let least = (0..PARTS).min_by_key(|&part| cases[part]).unwrap_or(0);

@@ -1,7 +1,7 @@
 //! What an assembly has to answer. Texts and faults are those of the Rust's
 //! `assembly::assemble`; its messages are taken apart into number and places. Of L,
-//! which the Rust does not have, the model tells, and of the anchors of headings whose
-//! underscores stay, which they do not in the Rust.
+//! which the Rust does not have, the model tells, and of the anchors of headings with a
+//! run of underscores that stays.
 
 use doc_gen::assembly::{self, Member};
 

@@ -10,7 +10,7 @@ use crate::walking::set::FileSet;
 const A: &str = "# A\n<!--[fragment:c]-->\nold\n<!--[/]-->\n";
 const B: &str = "# B\n<!--[fragment:c]-->\n<!--[/]-->\n\n<!--[fragment:c]-->\n<!--[/]-->\ntext\n";
 
-/// The same.
+/// Takes in `c`, under a title whose underscore stays.
 const WEIR: &str = "# weir_3\n<!--[fragment:c]-->\nold\n<!--[/]-->\n";
 
 /// Hand-written contents that are longer than all that is put.

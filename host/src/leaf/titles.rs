@@ -1,6 +1,6 @@
 //! Anchors: of a title, through a link to its member, and of two headings,
-//! through the check that no two members share one. Where underscores stay, which they
-//! do not in the Rust, both come from the model.
+//! through the check that no two members share one. Where a run of underscores stays,
+//! both come from the model.
 
 use std::fmt::{self, Display, Formatter};
 
@@ -57,7 +57,7 @@ impl Display for Anchors {
     }
 }
 
-/// Titles that request 01 gives the anchors of.
+/// Titles that Req 01 gives the anchors of.
 pub fn check_said() -> Outcome {
     let mut count = 0;
     for (title, said) in SAID {
@@ -65,6 +65,19 @@ pub fn check_said() -> Outcome {
         count += same(&format!("the model's anchor of {title}"), said, &model)?;
         let checked = check_anchor(title, said);
         count += checked.map_err(|wrong| format!("title {title}\n{wrong}"))?;
+    }
+    Ok(count)
+}
+
+/// Every byte that a line may have on each side of an underscore.
+pub fn check_neighbours() -> Outcome {
+    let mut count = 0;
+    for before in (0..0x80).filter(|&byte| byte != b'\n') {
+        for after in (0..0x80).filter(|&byte| byte != b'\n') {
+            let title = String::from_iter([before, b'_', after].map(char::from));
+            let checked = anchor(&title).and_then(|(anchor, _)| check_anchor(&title, &anchor));
+            count += checked.map_err(|wrong| format!("title {title:?}\n{wrong}"))?;
+        }
     }
     Ok(count)
 }

@@ -51,8 +51,8 @@ pub fn agreed(model: &Walk, rust: &End, reads: usize) -> Result<(), String> {
 }
 
 /// Says where an assembly by the model and one by the Rust differ in more than the anchors
-/// of headings whose underscores stay. Such an anchor has more underscores than the
-/// Rust's and is the same else; which headings share one cannot be told from the Rust's.
+/// of headings whose underscores stay. Such an anchor has as many underscores as the Rust's
+/// or more and is the same else; which headings share one cannot be told from the Rust's.
 pub fn agreed_but_for_underscores(model: &End, rust: &End) -> Result<(), String> {
     let shares = |end: &End| matches!(end, End::Fault(Fault { number: 19, .. }));
     if shares(model) || shares(rust) || without_underscores(model) == without_underscores(rust) {

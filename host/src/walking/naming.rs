@@ -1,5 +1,5 @@
 //! Anchors, links and paths, as `slug`, `anchor_self_links`, `rewrite_links` and
-//! `resolve`, which document 01 names, and for anchors as request 01 of document 02 says.
+//! `resolve`, which document 01 names, and for anchors as document 02, Req 01, says.
 //! Nothing of the Rust is called here.
 
 use super::reading::{find, holds, trimmed};
@@ -14,7 +14,7 @@ pub fn anchor(text: &[u8]) -> Vec<u8> {
     trimmed(&plain(text)).iter().filter_map(byte).collect()
 }
 
-/// Whether a heading text has a run of underscores that stays by request 01. The Rust
+/// Whether a heading text has a run of underscores that stays by Req 01. The Rust
 /// gives the same anchor where there is none.
 pub fn has_staying_run(text: &[u8]) -> bool {
     let (cut, _) = cut(text);

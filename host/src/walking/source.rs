@@ -10,7 +10,7 @@ pub enum Source {
     /// What is refused before the walk, which the Rust does not have.
     Refusals,
     Rust,
-    /// A heading has a run of underscores that stays, which it does not in the Rust.
+    /// A heading has a run of underscores that stays. Outside a link's text the Rust drops it.
     Model,
 }
 
