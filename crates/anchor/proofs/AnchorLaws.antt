@@ -11,13 +11,13 @@ use lib.ListN.{length, take, drop, getD, drop-of-length-le}
 use lib.Seq.{drop-cons}
 use lib.Dec.{eqb, leb, eqb·suc-suc, eqb·zero-suc, eqb·suc-zero}
 use borrow.Author.Tests.{not-true, not-false, eq-eqb, ne-eqb, eqb-true, leb-true, lt-leb}
-use Rattle.text.specs.Bytes.{part, any, first, afterLast}
+use Rattle.text.specs.Bytes.{part, is, any, first, afterLast}
 use Rattle.text.specs.Space.{isSpace, isOther, lead, kept, trimStart, trimEnd, trim}
 use Rattle.text.specs.Pattern.{startsWith, equals}
 use Rattle.text.proofs.BytesLaws.{or-left, or-right, after-none}
 use Rattle.text.proofs.PatternLaws.{and-left, and-right}
 use Rattle.text.specs.Ascii.{lower}
-use Rattle.anchor.specs.Anchor.{markupAfter, stands, isLinked, Cut, cutByte, cutFrom, isMark, isWord, wordFollows, wordBehind, stays, shows, plainFrom, isKept, anchorOf, isText, isShown, wordAfter, isSeen, plainEndFrom, stirred, numberFrom}
+use Rattle.anchor.specs.Anchor.{markupAfter, stands, isLinked, Cut, cutByte, cutFrom, isMark, isWord, wordFollows, wordBefore, stays, shows, plainFrom, isKept, anchorOf, isText, isShown, wordAfter, isSeen, plainEndFrom}
 use Rattle.anchor.specs.declared.Markup.{Markup}
 
 -- trimming, by the first byte
@@ -87,12 +87,12 @@ plain-cons w m x s = go (stands m x)
   where
     go : (b : Bool) → plainFrom w (cond b (cutByte m x ∷ cutFrom (markupAfter m x) s) (cutFrom (markupAfter m x) s))
         ≡ cond (b && (shows (cutByte m x) || stays w x (cutFrom (markupAfter m x) s)))
-        (x ∷ plainIn (cond b (wordBehind w x) w) (markupAfter m x) s)
-        (plainIn (cond b (wordBehind w x) w) (markupAfter m x) s)
+        (x ∷ plainIn (cond b (wordBefore w x) w) (markupAfter m x) s)
+        (plainIn (cond b (wordBefore w x) w) (markupAfter m x) s)
     go true = refl
     go false = refl
 
-pub follows-cons : (m : Markup) (x : ℕ) (s : List ℕ)
+follows-cons : (m : Markup) (x : ℕ) (s : List ℕ)
     → follows m (x ∷ s) ≡ cond (stands m x) (cond (eqb x 0x5F) (follows (markupAfter m x) s) (isWord x)) (follows (markupAfter m x) s)
 unfolding cutFrom wordFollows
 follows-cons m x s = go (stands m x)
@@ -122,7 +122,7 @@ goes (c ∷ s) h = go (eqb (c .byte) 0x5F) h (goes s)
     go true e ih = rw (e, ih e)
     go false e ih = refl
 
-pub judged : (w : Bool) (s : List Cut) → plainFrom (w && wordFollows s) s ≡ plainFrom w s
+judged : (w : Bool) (s : List Cut) → plainFrom (w && wordFollows s) s ≡ plainFrom w s
 judged false s = refl
 judged true s = go (wordFollows s) refl
   where
@@ -168,6 +168,12 @@ unseen-word m x h k = go (isMark x) (isSpace x) refl refl (rw k at h)
         yes true = refl
         yes false = refl
 
+pub seen-text : (m : Markup) (x : ℕ) {a b v : Bool} → a ≡ isText m x → b ≡ isSpace x → a ≡ true → not b ≡ v → isSeen m x ≡ v
+seen-text m x p q h k = rw (← p, ← q, h) k
+
+pub seen-markup : (m : Markup) (x : ℕ) {a : Bool} → a ≡ isText m x → a ≡ false → isSeen m x ≡ false
+seen-markup m x p h = rw (← p, h)
+
 -- whether a byte that is text and no space byte is left
 unfoldable anySeen : Markup → List ℕ → Bool
 anySeen m [] = false
@@ -208,18 +214,18 @@ any-plain w m (x ∷ s) =
     rest : List ℕ
     rest = plainIn (wordAfter w m x) (markupAfter m x) s
 
-    kept-or : (b o : Bool) → any isOther rest ≡ true → any isOther (cond b (x ∷ rest) rest) ≡ true
-    kept-or true o e = rw e (yes (isSpace x))
+    kept-or : (b : Bool) → any isOther rest ≡ true → any isOther (cond b (x ∷ rest) rest) ≡ true
+    kept-or true e = rw e (yes (isSpace x))
       where
         yes : (z : Bool) → (not z || true) ≡ true
         yes true = refl
         yes false = refl
-    kept-or false o e = e
+    kept-or false e = e
 
     go : (a b c : Bool) → anySeen (markupAfter m x) s ≡ c → any isOther rest ≡ c
         → any isOther (cond (a && (b || stays w x (cutFrom (markupAfter m x) s))) (x ∷ rest) rest) ≡ (((a && b) && not (isSpace x)) || c)
     go true true c e ih = rw ih
-    go true false true e ih = kept-or (stays w x (cutFrom (markupAfter m x) s)) false ih
+    go true false true e ih = kept-or (stays w x (cutFrom (markupAfter m x) s)) ih
     go true false false e ih = rw (stays-seen w (markupAfter m x) x s e) ih
     go false b c e ih = ih
 
@@ -270,6 +276,31 @@ follows-take m (x ∷ s) =
     go true v p q ih = rw (follows-cons m x (take (endOf (markupAfter m x) s) s), ih)
     go false true p q ih = rw (follows-cons m x [], follows-nil (markupAfter m x), follows-none (markupAfter m x) s p)
     go false false p q ih = rw (follows-nil m, follows-none (markupAfter m x) s p) (sym (none (stands m x) (eqb x 0x5F) refl q))
+
+-- where no underscore is, nothing depends on what stands before
+pub no-underscore : (w v : Bool) (m : Markup) (s : List ℕ) → any (is 0x5F) s ≡ false → plainIn w m s ≡ plainIn v m s
+unfolding any
+no-underscore w v m [] h = plain-nil w m ∙ sym (plain-nil v m)
+no-underscore w v m (x ∷ s) h =
+    plain-cons w m x s ∙ (go (stands m x) (eqb x 0x5F) (or-left (eqb x 0x5F) _ h) (no-underscore w v (markupAfter m x) s (or-right (eqb x 0x5F) _ h)) ∙ sym (plain-cons v m x s))
+  where
+    left : Bool → Bool → Bool → List ℕ
+    left u a b =
+        let rest = plainIn (cond a (cond b u (isWord x)) u) (markupAfter m x) s in
+        cond (a && (shows (cutByte m x) || (b && (u && follows (markupAfter m x) s)))) (x ∷ rest) rest
+
+    go : (a b : Bool) → b ≡ false → plainIn w (markupAfter m x) s ≡ plainIn v (markupAfter m x) s → left w a b ≡ left v a b
+    go a true e ih = absurd (false≢true (sym e))
+    go true false e ih = refl
+    go false false e ih = ih
+
+text-shown : (w : Bool) (m : Markup) (x : ℕ) (s : List ℕ) → eqb x 0x5F ≡ false → isShown w m x s ≡ isText m x
+text-shown w m x s h = go (stands m x) (shows (cutByte m x)) (eqb x 0x5F) h
+  where
+    go : (a b c : Bool) → c ≡ false → (a && (b || (c && (w && follows (markupAfter m x) s)))) ≡ (a && b)
+    go a b true e = absurd (false≢true (sym e))
+    go a true false e = refl
+    go a false false e = refl
 
 -- a byte that is shown, hidden or seen
 pub plain-shown : (w : Bool) (m : Markup) (x : ℕ) (s : List ℕ) → isShown w m x s ≡ true
@@ -403,7 +434,7 @@ part-none t i e h =
 
 -- what follows a run, and the text without its markup, of a part from place i up to e, by its first byte
 module _ (m : Markup) (t : List ℕ) (i e : ℕ) (h : i < e) (k : e ≤ length t) where
-  pub follows-part : follows m (part i e t) ≡ follows m (getD t i 0 ∷ part (i + 1) e t)
+  follows-part : follows m (part i e t) ≡ follows m (getD t i 0 ∷ part (i + 1) e t)
   follows-part = ap (follows m) (part-cons t i e h k)
 
   pub follows-past : (stands m (getD t i 0) && not (eqb (getD t i 0) 0x5F)) ≡ false → follows m (part i e t) ≡ follows (markupAfter m (getD t i 0)) (part (i + 1) e t)
@@ -432,7 +463,7 @@ module _ (m : Markup) (t : List ℕ) (i e : ℕ) (h : i < e) (k : e ≤ length t
   plain-cut w p = plain-part w ∙ (plain-cons w m (getD t i 0) (part (i + 1) e t) ∙ rw p)
 
   pub plain-run : (w r : Bool) → stands m (getD t i 0) ≡ true → getD t i 0 ≡ 0x5F → r ≡ (w && follows (markupAfter m (getD t i 0)) (part (i + 1) e t))
-      → let rest = plainIn (wordBehind r (getD t i 0)) (markupAfter m (getD t i 0)) (part (i + 1) e t) in
+      → let rest = plainIn (wordBefore r (getD t i 0)) (markupAfter m (getD t i 0)) (part (i + 1) e t) in
       plainIn w m (part i e t) ≡ cond (isText m (getD t i 0) || r) (getD t i 0 ∷ rest) rest
   plain-run w r p q h =
       plain-part w
@@ -440,12 +471,33 @@ module _ (m : Markup) (t : List ℕ) (i e : ℕ) (h : i < e) (k : e ≤ length t
       ∙ rw (p, eq-eqb (getD t i 0) 0x5F q, h, judged w (cutFrom (markupAfter m (getD t i 0)) (part (i + 1) e t))))
 
   pub plain-other : (w v : Bool) → stands m (getD t i 0) ≡ true → (getD t i 0 ≡ 0x5F → ⊥)
-      → let rest = plainIn (wordBehind v (getD t i 0)) (markupAfter m (getD t i 0)) (part (i + 1) e t) in
+      → let rest = plainIn (wordBefore v (getD t i 0)) (markupAfter m (getD t i 0)) (part (i + 1) e t) in
       plainIn w m (part i e t) ≡ cond (isText m (getD t i 0)) (getD t i 0 ∷ rest) rest
   plain-other w v p q =
       plain-part w
       ∙ (plain-cons w m (getD t i 0) (part (i + 1) e t)
       ∙ rw (p, ne-eqb (getD t i 0) 0x5F q, or-false (isLinked m || not (eqb (getD t i 0) 0x60 || (eqb (getD t i 0) 0x2A || false)))))
+
+  -- without underscores
+  pub none-left : any (is 0x5F) (part i e t) ≡ false → any (is 0x5F) (part (i + 1) e t) ≡ false
+  unfolding any
+  none-left n = or-right (eqb (getD t i 0) 0x5F) _ (rw (part-cons t i e h k) at n)
+
+  none-here : any (is 0x5F) (part i e t) ≡ false → eqb (getD t i 0) 0x5F ≡ false
+  unfolding any
+  none-here n = or-left (eqb (getD t i 0) 0x5F) _ (rw (part-cons t i e h k) at n)
+
+  pub plain-text : any (is 0x5F) (part i e t) ≡ false
+      → let rest = plainIn false (markupAfter m (getD t i 0)) (part (i + 1) e t) in
+      plainIn false m (part i e t) ≡ cond (isText m (getD t i 0)) (getD t i 0 ∷ rest) rest
+  plain-text n =
+      let x = getD t i 0 in
+      let rest = plainIn false (markupAfter m x) (part (i + 1) e t) in
+      let q = no-underscore (wordAfter false m x) false (markupAfter m x) (part (i + 1) e t) (none-left n) in
+      plain-part false
+      ∙ (plain-cons false m x (part (i + 1) e t)
+      ∙ (ap (λ (r : List ℕ). cond (isShown false m x (part (i + 1) e t)) (x ∷ r) r) q
+      ∙ ap (λ (b : Bool). cond b (x ∷ rest) rest) (text-shown false m x (part (i + 1) e t) (none-here n))))
 
 pub follows-end : (m : Markup) (t : List ℕ) (i e : ℕ) → e ≤ i → follows m (part i e t) ≡ false
 follows-end m t i e h = ap (follows m) (part-none t i e h) ∙ follows-nil m

@@ -61,9 +61,9 @@ unfoldable pub wordFollows : List Cut → Bool
 wordFollows [] = false
 wordFollows (c ∷ s) = cond (eqb (c .byte) 0x5F) (wordFollows s) (isWord (c .byte))
 
--- whether one stands "directly before", behind a byte: a run of underscores has what stands before it
-abbrev pub wordBehind : Bool → ℕ → Bool
-wordBehind before x = cond (eqb x 0x5F) before (isWord x)
+-- whether one stands "directly before" what follows x: behind an underscore, what stands before its run
+abbrev pub wordBefore : Bool → ℕ → Bool
+wordBefore before x = cond (eqb x 0x5F) before (isWord x)
 
 -- "A run of underscores with a letter or digit directly before and after it shall stay": an underscore of one, before s
 abbrev pub stays : Bool → ℕ → List Cut → Bool
@@ -81,7 +81,7 @@ shows c = c .linked || not (isMark (c .byte))
 unfoldable pub plainFrom : Bool → List Cut → List ℕ
 plainFrom before [] = []
 plainFrom before (c ∷ s) =
-    let rest = plainFrom (wordBehind before (c .byte)) s in
+    let rest = plainFrom (wordBefore before (c .byte)) s in
     cond (shows c || stays before (c .byte) s) (c .byte ∷ rest) rest
 
 abbrev pub plain : List ℕ → List ℕ
@@ -108,18 +108,18 @@ abbrev pub isShown : Bool → Markup → ℕ → List ℕ → Bool
 isShown before m x s = stands m x && (shows (cutByte m x) || stays before x (cutFrom (markupAfter m x) s))
 
 abbrev pub wordAfter : Bool → Markup → ℕ → Bool
-wordAfter before m x = cond (stands m x) (wordBehind before x) before
+wordAfter before m x = cond (stands m x) (wordBefore before x) before
 
 -- For the cursor: what is left of the text once links are cut, and without its markup
 abbrev pub cutLeft : AnchorCursor → List ℕ → List Cut
 cutLeft c t = cutFrom (c .markup) (part (c .at) (c .end) t)
 
 -- whether a letter or digit stands directly before it: told by the byte there or, where that is an underscore, by whether its run stays
-abbrev pub isBehindWord : AnchorCursor → Bool
-isBehindWord c = cond (eqb (c .last) 0x5F) (c .stays) (isWord (c .last))
+abbrev pub isWordLast : AnchorCursor → Bool
+isWordLast c = cond (eqb (c .last) 0x5F) (c .stays) (isWord (c .last))
 
 abbrev pub plainLeft : AnchorCursor → List ℕ → List ℕ
-plainLeft c t = plainFrom (isBehindWord c) (cutLeft c t)
+plainLeft c t = plainFrom (isWordLast c) (cutLeft c t)
 
 -- what is left of an anchor
 abbrev pub anchorFrom : AnchorCursor → List ℕ → List ℕ

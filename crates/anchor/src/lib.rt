@@ -4,9 +4,11 @@ ghost use mathlib.Core.List.{List, _∷_};
 ghost use mathlib.Core.Path.{_≡_};
 ghost use Prim.Native.Nat.{ℕ, _≤_, _<_};
 ghost use lib.ListN.{length};
+ghost use Rattle.text.specs.Bytes.{part, is, any};
 ghost use Rattle.text.specs.Pattern.{equals as equalsTo};
-ghost use Rattle.anchor.specs.Anchor.{stands as standsIn, markupAfter, isMark, isText, isSeen, isWord, isKept, cutLeft, wordFollows, isBehindWord, slug, anchorFrom, CursorWithin, ReadByte, NextByte, plainEnd, anchorOf, stirred, numberFrom, anchorNumber};
+ghost use Rattle.anchor.specs.Anchor.{stands as standsIn, markupAfter, isMark, isText, isWord, isKept, cutLeft, wordFollows, isWordLast, slug, anchorFrom, CursorWithin, ReadByte, NextByte, plainEnd, anchorOf, stirred, numberFrom, anchorNumber};
 use text::ascii;
+use text::bytes;
 use text::space;
 
 // Where a byte of a heading's text stands.
@@ -121,14 +123,7 @@ fn is_kept(b: u8) -> bool
     is_word(b) | ((b == b'-') | (b == b'_'))
 }
 
-// Whether a byte is text and no space byte. An underscore that stays never stands at an end of the text.
-fn is_seen(markup: Markup, b: u8) -> bool
-    ensures { λ r. ⌜ r ≡ isSeen markup b ⌝ }
-{
-    is_text(markup, b) & !space::is_space(b)
-}
-
-// Where the trimmed text ends: after the last byte that is text and no space byte.
+// Where the trimmed text ends: after the last byte that is text and no space byte. An underscore that stays never stands at an end of it.
 fn text_end(text: &[u8]) -> usize
     ensures { λ r. ⌜ (r ≡ plainEnd (now (text .entry))) × (r ≤ length (now (text .entry))) ⌝ }
 {
@@ -137,8 +132,10 @@ fn text_end(text: &[u8]) -> usize
     let mut i = 0;
     while i < text.len() {
         let b = text[i];
-        if is_seen(markup, b) {
-            end = i + 1;
+        if is_text(markup, b) {
+            if !space::is_space(b) {
+                end = i + 1;
+            }
         }
         markup = markup_after(markup, b);
         i += 1;
@@ -156,14 +153,16 @@ pub fn start(text: &[u8]) -> AnchorCursor
     let mut i = 0;
     while i < end {
         let b = text[i];
-        if is_seen(markup, b) {
-            return AnchorCursor {
-                at: i,
-                end,
-                markup,
-                last: 0,
-                stays: false,
-            };
+        if is_text(markup, b) {
+            if !space::is_space(b) {
+                return AnchorCursor {
+                    at: i,
+                    end,
+                    markup,
+                    last: 0,
+                    stays: false,
+                };
+            }
         }
         markup = markup_after(markup, b);
         i += 1;
@@ -199,7 +198,7 @@ fn word_follows(text: &[u8], from: AnchorCursor) -> bool
 // Whether the run of an underscore stays, this being left behind it, with the byte before it. What stands after a run is looked for once, at its first underscore.
 fn run_stays(text: &[u8], from: AnchorCursor) -> bool
     requires { ⌜ CursorWithin from (now text) ⌝ }
-    ensures { λ r. ⌜ r ≡ (isBehindWord from && wordFollows (cutLeft from (now (text .entry)))) ⌝ }
+    ensures { λ r. ⌜ r ≡ (isWordLast from && wordFollows (cutLeft from (now (text .entry)))) ⌝ }
 {
     if from.last == b'_' {
         return from.stays;
@@ -326,12 +325,30 @@ fn stir_in(n: usize, shown: bool, b: u8) -> usize
     n
 }
 
-// A number below 2^40 made of the bytes of a heading text's anchor: equal anchors have equal numbers.
-pub fn number_of(text: &[u8]) -> usize
-    ensures { λ r. ⌜ r ≡ anchorNumber (slug (now (text .entry))) ⌝ }
-    ensures { λ r. ⌜ r < 0x100_0000_0000 ⌝ }
+// The number of what is left of an anchor, where no underscore is.
+fn number_plain(text: &[u8], from: AnchorCursor) -> usize
+    requires { ⌜ CursorWithin from (now text) × (any (is 0x5F) (part (from .at) (from .end) (now text)) ≡ false) ⌝ }
+    ensures { λ r. ⌜ (r ≡ anchorNumber (anchorFrom from (now (text .entry)))) × (r < 0x100_0000_0000) ⌝ }
 {
-    let mut c = start(text);
+    let end = from.end;
+    let mut markup = from.markup;
+    let mut n = 0;
+    let mut i = from.at;
+    while i < end {
+        let b = text[i];
+        n = stir_in(n, is_text(markup, b), b);
+        markup = markup_after(markup, b);
+        i += 1;
+    }
+    n
+}
+
+// The number of what is left of an anchor.
+fn number_left(text: &[u8], from: AnchorCursor) -> usize
+    requires { ⌜ CursorWithin from (now text) ⌝ }
+    ensures { λ r. ⌜ (r ≡ anchorNumber (anchorFrom from (now (text .entry)))) × (r < 0x100_0000_0000) ⌝ }
+{
+    let mut c = from;
     let mut n = 0;
     while c.at < c.end {
         let i = c.at;
@@ -341,4 +358,18 @@ pub fn number_of(text: &[u8]) -> usize
         c = r.rest;
     }
     n
+}
+
+// A number below 2^40 made of the bytes of a heading text's anchor: equal anchors have equal numbers. Most headings have no underscore, and a loop that looks for no run is faster.
+pub fn number_of(text: &[u8]) -> usize
+    ensures { λ r. ⌜ r ≡ anchorNumber (slug (now (text .entry))) ⌝ }
+    ensures { λ r. ⌜ r < 0x100_0000_0000 ⌝ }
+{
+    let c = start(text);
+    let at = c.at;
+    let end = c.end;
+    if bytes::has(&text[at..end], b'_') {
+        return number_left(text, c);
+    }
+    number_plain(text, c)
 }

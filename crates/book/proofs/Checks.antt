@@ -1,4 +1,4 @@
--- Document 01, "Gauging checks": K1 to K12 hold as one theorem on the definitions. Assumes nothing.
+-- Document 01, "Gauging checks": K1 to K12 hold as one theorem on the definitions, K4 as document 02, Req 01, has it. Assumes nothing.
 use Rattle.listing.proofs.Checks as marker
 use Rattle.heading.proofs.Checks as heading
 use Rattle.anchor.proofs.Checks as anchor

@@ -19,7 +19,7 @@ use Rattle.anchor.specs.declared.Markup.the-variants.{Written, Bracket, Behind,
 use Rattle.commonmark.specs.Headings.{isSpaced}
 use Rattle.text.proofs.PatternLaws.{and-left, and-right}
 use Rattle.commonmark.proofs.BoolLaws.{of-list, second, and-true, or-first, _or_}
-use Rattle.identifiers.specs.Identifiers.{isLeft, identifier, Test, anyFrom, somewhere, underscore, target, markAtEnd, otherSpace, departsAt, departs, SameIdentifier, OtherIdentifier, EachParts, NoneHolds}
+use Rattle.identifiers.specs.Identifiers.{isLeft, identifier, anyFrom, somewhere, underscore, target, markAtEnd, otherSpace, departsAt, departs, SameIdentifier, OtherIdentifier, EachParts, NoneHolds}
 
 -- a text with no space byte at its ends is trimmed already
 last-other : (x : ℕ) (s : List ℕ) → isSpaced (x ∷ s) ≡ false → kept (x ∷ s) ≡ length (x ∷ s)

@@ -32,7 +32,7 @@ anyFrom f w m (x ∷ s) = f w m x s || anyFrom f (wordAfter w m x) (markupAfter 
 abbrev pub somewhere : Test → List ℕ → Bool
 somewhere f t = anyFrom f false Written t
 
--- an underscore that we drop, outside brackets and with no letter or digit directly before and after its run: the manual keeps it
+-- an underscore that we drop, outside brackets in a run that does not stay, or in a target: the manual keeps it
 abbrev pub underscore : Test
 underscore w m x s = eqb x 0x5F && not (isShown w m x s)
 

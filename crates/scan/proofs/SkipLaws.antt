@@ -7,7 +7,7 @@ use native.Mathlib.Numerals.{add-one, add-two}
 use native.Mathlib.Omega.{arith}
 use mathlib.Core.Path.{_≡_, refl, sym, ap, _∙_}
 use mathlib.Core.Bool.{Bool, true, false, _&&_, _||_, false≢true, and-false, or-assoc, or-false}
-use mathlib.Core.List.{List, [], _∷_, _++_, append-nil}
+use mathlib.Core.List.{List, [], _∷_, _++_}
 use lib.ListN.{length, take, drop, getD, length-drop}
 use lib.Seq.{drop-cons, drop-drop, take-take, take-nil}
 use lib.Dec.{eqb}
@@ -19,7 +19,7 @@ use Rattle.text.specs.Space.{lead, trimStart}
 use Rattle.text.specs.Lines.{LF, Line, linesFrom, lineEnd, lineNext}
 use Rattle.text.specs.declared.pattern.Found.the-variants.{Nothing}
 use Rattle.text.proofs.BytesLaws.{part-length, or-left, or-right, rest, after-le}
-use Rattle.text.proofs.LineLaws.{lines-step, lines-at, line-within, lines-length, lines-split-at, lines-skipped-at}
+use Rattle.text.proofs.LineLaws.{lines-step, lines-at, line-within, lines-split-at, lines-skipped-at}
 use Rattle.fence.specs.Fences.{isFence}
 use Rattle.marker.specs.Marker.{OPEN}
 use Rattle.scan.specs.Skip.{anyThree, hint, trace, allPlain, Skipped}

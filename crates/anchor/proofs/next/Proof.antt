@@ -3,7 +3,7 @@ use Prim.Native.Nat.{_-_, _≤_}
 use mathlib.Core.Path.{_≡_, refl, sym, ap, _∙_}
 use native.Mathlib.Omega.{arith}
 use borrow.Author.Needs.{needs}
-use Rattle.anchor.specs.Anchor.{anchorOf, anchorFrom, CursorWithin, isBehindWord}
+use Rattle.anchor.specs.Anchor.{anchorOf, anchorFrom, CursorWithin, isWordLast}
 use Rattle.anchor.proofs.AnchorLaws.{plain-none, anchor-kept, anchor-space, anchor-other, anchor-nil}
 use Rattle.anchor.proofs.next.Statement.{statement}
 use Rattle.anchor.proofs.next.Tie as tie
@@ -72,7 +72,7 @@ loop-again-2 c =
 returns-3 : tie.Need-returns-3 Inv-loop μ-loop
 returns-3 c =
     let l = c .before .before .loop in
-    l .inv .1 .1 ∙ (ap anchorOf (plain-none (isBehindWord (l .c)) (l .c .markup) (c .before .before .before .before .args .text .now) (l .c .at) (l .c .end) (omega arith)) ∙ anchor-nil)
+    l .inv .1 .1 ∙ (ap anchorOf (plain-none (isWordLast (l .c)) (l .c .markup) (c .before .before .before .before .args .text .now) (l .c .at) (l .c .end) (omega arith)) ∙ anchor-nil)
 
 pub next-spec : {M : Type 1} → statement M
 next-spec =

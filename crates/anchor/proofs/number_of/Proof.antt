@@ -1,63 +1,48 @@
--- `anchor::number_of` meets its contract. The invariant: going on with what is left of the anchor gives the anchor's number. Assumes nothing.
-use Prim.Native.Nat.{ℕ, _-_, _<_}
+-- `anchor::number_of` meets its contract: by whether an underscore is left. Assumes nothing.
 use native.Mathlib.Omega.{arith}
 use mathlib.Core.Path.{_≡_, ap, sym, _∙_}
-use mathlib.Core.List.{List}
 use borrow.Author.Needs.{needs}
-use Rattle.anchor.specs.Anchor.{anchorOf, anchorFrom, CursorWithin, isBehindWord, plainLeft, slug, numberFrom}
-use Rattle.anchor.proofs.AnchorLaws.{plain-none, anchor-nil}
+use Rattle.anchor.specs.Anchor.{numberFrom}
 use Rattle.anchor.proofs.number_of.Statement.{statement}
 use Rattle.anchor.proofs.number_of.Tie as tie
 
-abbrev Inv-loop : tie.InvT-loop
-Inv-loop text c₀ n₀ c n = (n < 0x100_0000_0000) × (CursorWithin c text × (numberFrom n (anchorFrom c text) ≡ numberFrom 0 (slug text)))
-
-abbrev μ-loop : tie.MeasureT-loop
-μ-loop text c₀ n₀ c n = c .end - c .at
-
-start-requires : tie.Need-start-requires Inv-loop μ-loop
+start-requires : tie.Need-start-requires
 start-requires c κs = search needs
 
-loop-holds : tie.Need-loop-holds Inv-loop μ-loop
-loop-holds c = let f = c .start .ensures in (omega arith, (f .1, ap (numberFrom 0) (f .0)))
+sub-has : tie.Need-sub-has
+sub-has c = omega (arith, c .start .ensures .1 .0 .0)
 
-shared-slice-read-b : tie.Need-shared-slice-read-b Inv-loop μ-loop
-shared-slice-read-b c = omega (arith, c .before .before .before .loop .inv .1 .0 .0 .1)
+part-has-start : tie.Need-part-has-start
+part-has-start c = omega (arith, c .start .ensures .1 .0 .0)
 
-read-requires : tie.Need-read-requires Inv-loop μ-loop
-read-requires c κs = (c .before .before .before .loop .inv .1 .0, omega arith)
+part-has-end : tie.Need-part-has-end
+part-has-end c = omega (arith, c .start .ensures .1 .0 .1)
 
-stir-in-requires : tie.Need-stir-in-requires Inv-loop μ-loop
-stir-in-requires c κs = c .before .before .before .before .loop .inv .0
+has-requires : tie.Need-has-requires
+has-requires c κs = search needs
 
-loop-less : tie.Need-loop-less Inv-loop μ-loop
-loop-less c = let r = c .before .before .read .ensures in omega (arith, r .1 .0, r .1 .1 .0)
+number-left-requires : tie.Need-number-left-requires
+number-left-requires c κs = c .before .before .before .start .ensures .1
 
-loop-again : tie.Need-loop-again Inv-loop μ-loop
-loop-again c =
-    let l = c .before .before .before .before .before .before .loop in
-    let r = c .before .before .read .ensures in
-    let s = c .before .stir-in .ensures in
-    (s .1, (r .1 .1 .1, sym (s .0 _) ∙ (ap (λ (p : List ℕ). numberFrom (l .n) (anchorOf p)) (sym (r .0)) ∙ l .inv .1 .1)))
+returns : tie.Need-returns
+returns c = (c .number-left .ensures .0 ∙ ap (numberFrom 0) (c .before .before .before .before .start .ensures .0), c .number-left .ensures .1)
 
-returns : tie.Need-returns Inv-loop μ-loop
-unfolding numberFrom
-returns c =
-    let l = c .before .before .loop in
-    let t = c .before .before .before .before .before .args .text .now in
-    (ap (numberFrom (l .n)) (sym (ap anchorOf (plain-none (isBehindWord (l .c)) (l .c .markup) t (l .c .at) (l .c .end) (omega arith)) ∙ anchor-nil)) ∙ l .inv .1 .1, l .inv .0)
+number-plain-requires : tie.Need-number-plain-requires
+number-plain-requires c κs = (c .before .before .before .start .ensures .1, sym (c .before .has .ensures) ∙ c .if1 .left)
+
+returns-2 : tie.Need-returns-2
+returns-2 c = (c .number-plain .ensures .0 ∙ ap (numberFrom 0) (c .before .before .before .before .start .ensures .0), c .number-plain .ensures .1)
 
 pub number-of-spec : {M : Type 1} → statement M
 number-of-spec =
     tie.close
     (tie.spec
-    Inv-loop
-    μ-loop
     start-requires
-    loop-holds
-    shared-slice-read-b
-    read-requires
-    stir-in-requires
-    loop-less
-    loop-again
-    returns)
+    sub-has
+    part-has-start
+    part-has-end
+    has-requires
+    number-left-requires
+    returns
+    number-plain-requires
+    returns-2)

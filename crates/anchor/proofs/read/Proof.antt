@@ -7,7 +7,7 @@ use mathlib.Core.Path.{_≡_, refl, sym, _∙_}
 use borrow.Author.Needs.{needs}
 use borrow.Author.Tests.{not-true, not-false, ne-eqb}
 use Rattle.text.proofs.PatternLaws.{and-left, and-right}
-use Rattle.anchor.specs.Anchor.{isBehindWord}
+use Rattle.anchor.specs.Anchor.{isWordLast}
 use Rattle.anchor.proofs.AnchorLaws.{follows-cut, follows-run, plain-cut, plain-run, plain-other}
 use Rattle.anchor.proofs.read.Statement.{statement}
 use Rattle.anchor.proofs.read.Tie as tie
@@ -32,7 +32,7 @@ returns c =
     let a = c .before .before .before .before .before .before .args in
     let f = a .from in
     let p = sym (c .before .stands .ensures) ∙ not-true _ (c .if1 .taken) in (
-      rw (c .before .before .markup-after .ensures) (plain-cut (f .markup) (a .text .now) (f .at) (f .end) (omega arith) (omega arith) (isBehindWord f) p),
+      rw (c .before .before .markup-after .ensures) (plain-cut (f .markup) (a .text .now) (f .at) (f .end) (omega arith) (omega arith) (isWordLast f) p),
       (refl, (refl, ((omega arith, omega arith), λ h. rw (c .before .before .markup-after .ensures) (sym (follows-cut (f .markup) (a .text .now) (f .at) (f .end) (omega arith) (omega arith) p) ∙ c .before .before .before .before .before .before .pre .0 .1 h)))),
     )
 
@@ -42,7 +42,7 @@ returns-2 c =
     let f = a .from in
     let p = sym (c .before .before .stands .ensures) ∙ not-false _ (c .before .if1 .left) in (
       rw (c .before .before .before .before .is-text .ensures, c .before .before .before .markup-after .ensures)
-          (plain-other (f .markup) (a .text .now) (f .at) (f .end) (omega arith) (omega arith) (isBehindWord f) (f .stays) p (c .if2 .taken)),
+          (plain-other (f .markup) (a .text .now) (f .at) (f .end) (omega arith) (omega arith) (isWordLast f) (f .stays) p (c .if2 .taken)),
       (refl, (refl, ((omega arith, omega arith), λ h. absurd (false≢true (sym (ne-eqb _ 0x5F (c .if2 .taken)) ∙ and-left _ _ h))))),
     )
 
@@ -59,8 +59,8 @@ returns-3 c =
     let p = sym (c .before .before .before .stands .ensures) ∙ not-false _ (c .before .before .if1 .left) in
     let r = rw (c .before .before .before .before .markup-after .ensures) at (c .run-stays .ensures) in (
       rw (c .before .before .before .before .before .is-text .ensures, c .before .before .before .before .markup-after .ensures)
-          (plain-run (f .markup) (a .text .now) (f .at) (f .end) (omega arith) (omega arith) (isBehindWord f) (c .run-stays .result) p (c .before .if2 .left) r),
-      (refl, (refl, ((omega arith, omega arith), λ h. and-right (isBehindWord f) _ (sym (c .run-stays .ensures) ∙ and-right (eqb (getD (a .text .now) (f .at) 0) 0x5F) _ h)))),
+          (plain-run (f .markup) (a .text .now) (f .at) (f .end) (omega arith) (omega arith) (isWordLast f) (c .run-stays .result) p (c .before .if2 .left) r),
+      (refl, (refl, ((omega arith, omega arith), λ h. and-right (isWordLast f) _ (sym (c .run-stays .ensures) ∙ and-right (eqb (getD (a .text .now) (f .at) 0) 0x5F) _ h)))),
     )
 
 pub read-spec : {M : Type 1} → statement M

@@ -2,13 +2,14 @@
 use Prim.Native.Nat.{_-_, _≤_}
 use mathlib.Core.Path.{_≡_, refl, sym, ap, _∙_}
 use mathlib.Core.Bool.{false, false≢true}
-use lib.ListN.{length, drop}
+use mathlib.Core.Logic.{⊎-elim}
+use lib.ListN.{length, drop, getD}
 use native.Mathlib.Omega.{arith}
 use borrow.Author.Needs.{needs}
 use Rattle.text.specs.Ascii.{lower}
 use Rattle.text.specs.Space.{trim}
-use Rattle.anchor.specs.Anchor.{plain, plainEndFrom, anchorOf, slug}
-use Rattle.anchor.proofs.AnchorLaws.{plainIn, end-on, start-on, start-here, start-nowhere}
+use Rattle.anchor.specs.Anchor.{isSeen, plain, plainEndFrom, anchorOf, slug}
+use Rattle.anchor.proofs.AnchorLaws.{plainIn, seen-text, seen-markup, end-on, start-on, start-here, start-nowhere}
 use Rattle.anchor.proofs.start.Statement.{statement}
 use Rattle.anchor.proofs.start.Tie as tie
 
@@ -27,16 +28,19 @@ loop-holds c = (omega arith, (c .text-end .ensures .1, (sym (c .text-end .ensure
 shared-slice-read-b : tie.Need-shared-slice-read-b Inv-loop μ-loop
 shared-slice-read-b c = omega arith
 
-is-seen-requires : tie.Need-is-seen-requires Inv-loop μ-loop
-is-seen-requires c κs = search needs
+is-text-requires : tie.Need-is-text-requires Inv-loop μ-loop
+is-text-requires c κs = search needs
+
+is-space-requires : tie.Need-is-space-requires Inv-loop μ-loop
+is-space-requires c κs = search needs
 
 returns : tie.Need-returns Inv-loop μ-loop
 unfolding slug lower
 returns c =
-    let l = c .before .before .before .before .loop in
-    let s = c .before .before .before .before .before .before .before .args .text .now in
-    let p = sym (c .before .is-seen .ensures) ∙ c .if1 .taken in
-    (ap anchorOf (start-here (l .markup) s (l .i) (c .before .before .before .before .before .text-end .result) (omega arith) p (l .inv .1 .1 .0) ∙ l .inv .1 .1 .1), ((omega arith, omega arith), λ h. absurd (false≢true h)))
+    let l = c .before .before .before .before .before .before .loop in
+    let s = c .before .before .before .before .before .before .before .before .before .args .text .now in
+    let q = seen-text (l .markup) _ (c .before .before .before .is-text .ensures) (c .before .is-space .ensures) (c .before .before .if1 .taken) (c .if2 .taken) in
+    (ap anchorOf (start-here (l .markup) s (l .i) (c .before .before .before .before .before .before .before .text-end .result) (omega arith) q (l .inv .1 .1 .0) ∙ l .inv .1 .1 .1), ((omega arith, omega arith), λ h. absurd (false≢true h)))
 
 markup-after-requires : tie.Need-markup-after-requires Inv-loop μ-loop
 markup-after-requires c κs = search needs
@@ -51,7 +55,10 @@ loop-again : tie.Need-loop-again Inv-loop μ-loop
 loop-again c =
     let l = c .before .before .before .before .before .loop in
     let s = c .before .before .before .before .before .before .before .before .args .text .now in
-    let q = sym (c .before .before .is-seen .ensures) ∙ c .before .if1 .left in (
+    let x = getD s (l .i) 0 in
+    let h = c .before .before .is-text .ensures in
+    let q : isSeen (l .markup) x ≡ false =
+    ⊎-elim (λ w. seen-text (l .markup) x h (w .1 .ensures) (w .0 .taken) (w .2 .left)) (λ w. seen-markup (l .markup) x h (w .left)) (c .before .if1 .came) in (
       omega arith,
       (
         omega arith,
@@ -78,7 +85,8 @@ start-spec =
     text-end-requires
     loop-holds
     shared-slice-read-b
-    is-seen-requires
+    is-text-requires
+    is-space-requires
     returns
     markup-after-requires
     add-i

@@ -3,11 +3,11 @@ use Prim.Native.Nat.{_-_, _≤_}
 use mathlib.Core.Bool.{true, false}
 use mathlib.Core.Path.{_≡_, refl, sym, _∙_}
 use mathlib.Core.Logic.{⊎-elim}
-use lib.ListN.{length, drop}
+use lib.ListN.{length, drop, getD}
 use native.Mathlib.Omega.{arith}
 use borrow.Author.Needs.{needs}
 use Rattle.anchor.specs.Anchor.{plainEndFrom, plainEnd}
-use Rattle.anchor.proofs.AnchorLaws.{end-on, end-done}
+use Rattle.anchor.proofs.AnchorLaws.{end-on, end-done, seen-text, seen-markup}
 use Rattle.anchor.proofs.text_end.Statement.{statement}
 use Rattle.anchor.proofs.text_end.Tie as tie
 
@@ -23,8 +23,11 @@ loop-holds c = (omega arith, (omega arith, refl))
 shared-slice-read-b : tie.Need-shared-slice-read-b Inv-loop μ-loop
 shared-slice-read-b c = omega arith
 
-is-seen-requires : tie.Need-is-seen-requires Inv-loop μ-loop
-is-seen-requires c κs = search needs
+is-text-requires : tie.Need-is-text-requires Inv-loop μ-loop
+is-text-requires c κs = search needs
+
+is-space-requires : tie.Need-is-space-requires Inv-loop μ-loop
+is-space-requires c κs = search needs
 
 add-end : tie.Need-add-end Inv-loop μ-loop
 add-end c = omega arith
@@ -42,16 +45,34 @@ loop-again : tie.Need-loop-again Inv-loop μ-loop
 loop-again c =
     let l = c .before .before .before .before .before .loop in
     let s = c .before .before .before .before .before .before .before .args .text .now in
-    let h = c .before .before .is-seen .ensures in
+    let x = getD s (l .i) 0 in
+    let h = c .before .before .is-text .ensures in
     ⊎-elim
     (λ w. (
       omega arith,
-      (omega (arith, w .1), rw (c .markup-after .ensures, w .1) (end-on (l .markup) s (l .i) (l .end) true (omega arith) (sym h ∙ w .0 .taken) ∙ l .inv .1 .1)),
+      (
+        omega (arith, w .3),
+        rw (c .markup-after .ensures, w .3)
+            (end-on (l .markup) s (l .i) (l .end) true (omega arith) (seen-text (l .markup) x h (w .1 .ensures) (w .0 .taken) (w .2 .taken)) ∙ l .inv .1 .1),
+      ),
+    ))
+    (⊎-elim
+    (λ w. (
+      omega arith,
+      (
+        omega (arith, w .3),
+        rw (c .markup-after .ensures, w .3)
+            (end-on (l .markup) s (l .i) (l .end) false (omega arith) (seen-text (l .markup) x h (w .1 .ensures) (w .0 .taken) (w .2 .left)) ∙ l .inv .1 .1),
+      ),
     ))
     (λ w. (
       omega arith,
-      (omega (arith, w .1), rw (c .markup-after .ensures, w .1) (end-on (l .markup) s (l .i) (l .end) false (omega arith) (sym h ∙ w .0 .left) ∙ l .inv .1 .1)),
-    ))
+      (
+        omega (arith, w .1),
+        rw (c .markup-after .ensures, w .1)
+            (end-on (l .markup) s (l .i) (l .end) false (omega arith) (seen-markup (l .markup) x h (w .0 .left)) ∙ l .inv .1 .1),
+      ),
+    )))
     (c .before .if1 .came)
 
 returns : tie.Need-returns Inv-loop μ-loop
@@ -69,7 +90,8 @@ text-end-spec =
     μ-loop
     loop-holds
     shared-slice-read-b
-    is-seen-requires
+    is-text-requires
+    is-space-requires
     add-end
     markup-after-requires
     add-i
