@@ -66,9 +66,9 @@ fn is_text(markup: Markup, b: u8) -> bool
     ensures { λ r. ⌜ r ≡ isText markup b ⌝ }
 {
     match markup {
-        Markup::Written => !(b == b'[') & !is_mark(b),
+        Markup::Written => !((b == b'[') | is_mark(b)),
         Markup::Bracket => !(b == b']'),
-        Markup::Behind => !((b == b'(') | (b == b'[')) & !is_mark(b),
+        Markup::Behind => !((b == b'(') | ((b == b'[') | is_mark(b))),
         Markup::Target => false,
     }
 }
@@ -195,7 +195,7 @@ fn word_follows(text: &[u8], from: AnchorCursor) -> bool
     false
 }
 
-// Whether the run of an underscore stays, this being left behind it, with the byte before it. What stands after a run is looked for once, at its first underscore.
+// Whether the run of an underscore stays. The cursor stands behind the underscore, and has the byte before it. What stands after a run is looked for once, at its first underscore.
 fn run_stays(text: &[u8], from: AnchorCursor) -> bool
     requires { ⌜ CursorWithin from (now text) ⌝ }
     ensures { λ r. ⌜ r ≡ (isWordLast from && wordFollows (cutLeft from (now (text .entry)))) ⌝ }

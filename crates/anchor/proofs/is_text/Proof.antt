@@ -1,15 +1,23 @@
 -- `anchor::is_text` meets its contract: by the markup of each arm. Assumes nothing.
-use mathlib.Core.Bool.{Bool, true, false, not, _&&_}
+use mathlib.Core.Bool.{Bool, true, false, not, _&&_, _||_}
 use mathlib.Core.Path.{_≡_, refl}
 use lib.Dec.{eqb}
 use borrow.Author.Needs.{needs}
-use Rattle.anchor.specs.Anchor.{stands, isLinked}
+use Rattle.anchor.specs.Anchor.{stands, isLinked, isMark}
 use Rattle.anchor.proofs.is_text.Statement.{statement}
 use Rattle.anchor.proofs.is_text.Tie as tie
 
 and-yes : (b : Bool) → b ≡ (b && true)
 and-yes true = refl
 and-yes false = refl
+
+neither : (a b : Bool) → not (a || b) ≡ (not a && not b)
+neither true b = refl
+neither false b = refl
+
+none : (a b c : Bool) → not (a || (b || c)) ≡ (not (a || b) && not c)
+none true b c = refl
+none false b c = neither b c
 
 enum-told : tie.Need-enum-told
 enum-told c = search needs
@@ -31,7 +39,7 @@ enum-told-4 c = search needs
 
 returns : tie.Need-returns
 unfolding stands isLinked
-returns c = rw (c .before .enum-told .given .1, c .is-mark .ensures)
+returns c = rw (c .before .enum-told .given .1, c .is-mark .ensures) (neither (eqb (c .before .before .before .args .b) 0x5B) (isMark (c .before .before .before .args .b)))
 
 returns-2 : tie.Need-returns-2
 unfolding stands isLinked
@@ -39,7 +47,7 @@ returns-2 c = rw (c .enum-told2 .given .1) (and-yes (not (eqb (c .before .before
 
 returns-3 : tie.Need-returns-3
 unfolding stands isLinked
-returns-3 c = rw (c .before .enum-told3 .given .1, c .is-mark2 .ensures)
+returns-3 c = rw (c .before .enum-told3 .given .1, c .is-mark2 .ensures) (none (eqb (c .before .before .before .args .b) 0x28) (eqb (c .before .before .before .args .b) 0x5B) (isMark (c .before .before .before .args .b)))
 
 returns-4 : tie.Need-returns-4
 unfolding stands isLinked
