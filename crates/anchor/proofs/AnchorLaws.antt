@@ -5,7 +5,7 @@ use native.Mathlib.Nat.{not-suc-le-zero}
 use native.Mathlib.Numerals.{add-one}
 use native.Mathlib.Omega.{arith}
 use mathlib.Core.Path.{◌≡◌, refl, sym, ap, ◌∙◌}
-use mathlib.Core.Bool.{Bool, true, false, cond, not, ◌&&◌, ◌||◌, false≢true, and_false}
+use mathlib.Core.Bool.{Bool, true, false, cond, not, ◌&&◌, ◌||◌, false≢true, and-false}
 use mathlib.Core.List.{List, [], ◌∷◌}
 use lib.ListN.{length, take, drop, get_or, drop_of_length-le}
 use lib.Seq.{drop-cons}
@@ -451,7 +451,7 @@ module _ (m : Markup) (t : List ℕ) (i e : ℕ) (h : i < e) (k : e ≤ length t
   follows_cut p = follows_past (rw p)
 
   pub follows_run : get_or t i 0 ≡ 0x5F → follows m (part i e t) ≡ follows (markup_after m (get_or t i 0)) (part (i + 1) e t)
-  follows_run q = follows_past (rw (eq-eqb (get_or t i 0) 0x5F q) (and_false (stands m (get_or t i 0))))
+  follows_run q = follows_past (rw (eq-eqb (get_or t i 0) 0x5F q) (and-false (stands m (get_or t i 0))))
 
   pub follows_here : (stands m (get_or t i 0) && not (eqb (get_or t i 0) 0x5F)) ≡ true → follows m (part i e t) ≡ is_word (get_or t i 0)
   follows_here p = follows-part ∙ (follows_cons m (get_or t i 0) (part (i + 1) e t) ∙ rw (and_left (stands m (get_or t i 0)) _ p, not-true (eqb (get_or t i 0) 0x5F) (and_right (stands m (get_or t i 0)) _ p)))
@@ -531,7 +531,7 @@ equals_on x y a b e = rw (eqb-suc-suc (length b) (length a), eq-eqb y x (sym e))
 
 pub equals_differ : (x y : ℕ) (a b : List ℕ) → (x ≡ y → ⊥) → equals (x ∷ a) (y ∷ b) ≡ false
 unfolding equals starts_with
-equals_differ x y a b e = rw (ne_eqb y x (λ p. e (sym p))) (and_false (eqb (suc (length b)) (suc (length a))))
+equals_differ x y a b e = rw (ne_eqb y x (λ p. e (sym p))) (and-false (eqb (suc (length b)) (suc (length a))))
 
 pub equals_longer : (x : ℕ) (a : List ℕ) → equals (x ∷ a) [] ≡ false
 unfolding equals

@@ -1,3 +1,5 @@
+#![tactic(auto)]
+
 // Anchors: the bytes of a heading text's anchor one after the other, without a buffer.
 ghost use Rattle.std.specs.Prelude.{true, false, cond, ◌&&◌, List, ◌∷◌, ◌≡◌, ℕ, ◌≤◌, ◌<◌, length};
 ghost use Rattle.text.specs.Bytes.{part, is, any};
@@ -7,7 +9,7 @@ ghost use Rattle.anchor.specs.Anchor.{stands as stands_in, markup_after, is_mark
 use text::{ascii, bytes, space};
 
 // Where a byte of a heading's text stands.
-#[derive(Drop)]
+#[derive(Clone, Copy)]
 pub enum Markup {
     // Outside brackets and parentheses.
     Written,
@@ -20,7 +22,7 @@ pub enum Markup {
 }
 
 // What is left of an anchor: from a place up to another, the first byte standing in this markup. `last` is the byte directly before it once links are cut to their text; where that is an underscore, `stays` says whether its run stays.
-#[derive(Drop)]
+#[derive(Clone, Copy)]
 pub struct AnchorCursor {
     pub at: usize,
     pub end: usize,
@@ -29,14 +31,14 @@ pub struct AnchorCursor {
     pub stays: bool,
 }
 
-#[derive(Drop)]
+#[derive(Clone, Copy)]
 pub enum AnchorByte {
     Byte(u8, AnchorCursor),
     End,
 }
 
 // A byte of the text that was read: whether it is text and no markup, and what is left.
-#[derive(Drop)]
+#[derive(Clone, Copy)]
 struct TextByte {
     shown: bool,
     rest: AnchorCursor,

@@ -1,16 +1,18 @@
+#![tactic(auto)]
+
 // What a call answers: document 01's acceptance, "no region" and numbered refusals with their places.
 ghost use Rattle.std.specs.Prelude.{◌≡◌};
 ghost use Rattle.answer.specs.Answer.{number as number_of, place_of, second as second_of, numbers as numbers_of};
 
 // A file, as its record's number from 1, or 0, and a line from 1, or 0.
-#[derive(Drop)]
+#[derive(Clone, Copy)]
 pub struct Place {
     pub file: usize,
     pub line: usize,
 }
 
 // Each refusal of document 01's table, in its order, with the parts of its places that vary.
-#[derive(Drop)]
+#[derive(Clone, Copy)]
 pub enum Refusal {
     IndexLine(usize),
     TooManyRecords,
@@ -33,7 +35,7 @@ pub enum Refusal {
     SharedAnchor(Place, Place),
 }
 
-#[derive(Drop)]
+#[derive(Clone, Copy)]
 pub enum Answer {
     Accepted { length: usize, files: usize },
     NoRegion,

@@ -1,3 +1,5 @@
+#![tactic(auto)]
+
 // The arguments of stationbook.
 ghost use Rattle.std.specs.Prelude.{◌≤◌};
 ghost use Rattle.arguments.specs.Arguments.{Read};
@@ -15,7 +17,7 @@ const MOST_NOTES: usize = 64;
 
 // The allowance, which argument names the book's file (0: none) and which is the URL. The list is the argument behind the URL, and
 // the notes follow it.
-#[derive(Drop)]
+#[derive(Clone, Copy)]
 pub struct Call {
     pub allowance: usize,
     pub book: usize,
@@ -23,7 +25,7 @@ pub struct Call {
     pub notes: usize,
 }
 
-#[derive(Drop)]
+#[derive(Clone, Copy)]
 pub enum Arguments {
     Call(Call),
     Usage,
@@ -31,7 +33,7 @@ pub enum Arguments {
 }
 
 // What an argument may be before the URL.
-#[derive(Drop)]
+#[derive(Clone, Copy)]
 enum Word {
     Allowance,
     Book,

@@ -1,3 +1,5 @@
+#![tactic(auto)]
+
 // The call assemble: the members of a list joined into one text, in the output.
 ghost use Rattle.std.specs.Prelude.{◌≡◌, length};
 ghost use Rattle.book.specs.Calls.{assemble_outcome, answer_of, output_after, work_after};

@@ -1,3 +1,5 @@
+#![tactic(auto)]
+
 // Joining members into one text: all prepared, compared, and emitted one behind the other.
 ghost use Rattle.std.specs.Prelude.{◌≡◌, ℕ, ◌+◌, ◌≤◌, ◌<◌, length};
 ghost use Rattle.walk.specs.Outcome.{outcome};

@@ -1,3 +1,5 @@
+#![tactic(auto)]
+
 // The walk of a book: the members of a list filled, and joined into one text, at the front of the work buffer.
 ghost use Rattle.std.specs.Prelude.{◌≡◌, ◌≤◌, length};
 ghost use Rattle.index.specs.Index.{records, files};

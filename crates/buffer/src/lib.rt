@@ -1,3 +1,5 @@
+#![tactic(auto)]
+
 // Copying into a buffer, clearing it, and numbers in decimal. Each loop becomes a block move or a block fill.
 ghost use Rattle.std.specs.Prelude.{◌≡◌, ◌+◌, ◌-◌, ◌≤◌, length, replicate};
 ghost use Rattle.std.proofs.lemmas.List.Edits.{sets};

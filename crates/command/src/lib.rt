@@ -1,3 +1,5 @@
+#![tactic(auto)]
+
 // stationbook: a book of notes on the disk. Answers the exit status: 0 for a book, 1 for a refusal, 2 for what is no call.
 ghost use Rattle.std.specs.Prelude.{◌≤◌, length};
 ghost use Rattle.arguments.specs.Arguments.{Called};

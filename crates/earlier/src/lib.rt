@@ -1,3 +1,5 @@
+#![tactic(auto)]
+
 // The anchors of earlier members: where a member of another name has the anchor of a heading.
 ghost use Rattle.std.specs.Prelude.{◌≡◌, ◌+◌, ◌≤◌, length};
 ghost use Rattle.anchor.specs.Anchor.{slug};

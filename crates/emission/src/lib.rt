@@ -1,3 +1,5 @@
+#![tactic(auto)]
+
 // A member's lines put behind the text so far: headings moved but for the title, links outside fences rewritten.
 ghost use Rattle.std.specs.Prelude.{◌≤◌, length};
 ghost use Rattle.std.specs.Int.Signed.{mag};

@@ -1,3 +1,5 @@
+#![tactic(auto)]
+
 // A line of a member as it is emitted, or a block of lines as they stand, put behind the text so far.
 ghost use Rattle.std.specs.Prelude.{◌++◌, suc, ◌+◌, ◌-◌, ◌≤◌, ◌<◌, length};
 ghost use Rattle.std.specs.Int.Signed.{mag};

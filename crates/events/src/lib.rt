@@ -1,3 +1,5 @@
+#![tactic(auto)]
+
 // All that a scan finds, put into a sink.
 ghost use Rattle.std.specs.Prelude.{◌≡◌, ◌+◌, ◌≤◌, length, drop};
 ghost use Rattle.text.specs.Lines.{lines_from};

@@ -1,3 +1,5 @@
+#![tactic(auto)]
+
 // Fences of document 01: the test of a line that the marker scan and the heading walk share.
 ghost use Rattle.std.specs.Prelude.{◌≡◌};
 ghost use Rattle.fence.specs.Fences.{opener, opens as opens_fence, is_fence};
@@ -5,7 +7,7 @@ ghost use Rattle.fence.specs.Fences.{opener, opens as opens_fence, is_fence};
 use text::{pattern, space};
 
 // The fence that is open, by its three bytes.
-#[derive(Drop)]
+#[derive(Clone, Copy)]
 pub enum Fence {
     Outside,
     Ticks,

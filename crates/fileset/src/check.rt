@@ -13,21 +13,21 @@ use index::rows::IndexRead;
 use index::{name, records, rows};
 use text::{ascii, bytes};
 
-#[derive(Drop)]
+#[derive(Clone, Copy)]
 pub enum Checked {
     Passed,
     Refused(Refusal),
 }
 
 // The checks of the index: how many records it has, or a refusal.
-#[derive(Drop)]
+#[derive(Clone, Copy)]
 pub enum Head {
     Records(usize),
     Refused(Refusal),
 }
 
 // The text limit, and how many bytes output and work buffer have.
-#[derive(Drop)]
+#[derive(Clone, Copy)]
 pub struct Sizes {
     pub limit: usize,
     pub output: usize,

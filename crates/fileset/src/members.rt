@@ -8,7 +8,7 @@ use text::pattern::Found;
 use text::{bytes, lines, pattern};
 
 // How many lines a list has, or that it is none.
-#[derive(Drop)]
+#[derive(Clone, Copy)]
 pub enum ListLines {
     Lines(usize),
     NoList,

@@ -1,3 +1,5 @@
+#![tactic(auto)]
+
 // The call fill: the host handed in with its regions filled, in the output.
 ghost use Rattle.std.specs.Prelude.{◌≡◌, length};
 ghost use Rattle.book.specs.Calls.{fill_outcome, answer_of, output_after, work_after};

@@ -1,3 +1,5 @@
+#![tactic(auto)]
+
 // One region of a fill after the other: the next file to take in, or the host's last bytes.
 ghost use Rattle.std.specs.Prelude.{◌≡◌, List, ◌++◌, ℕ, ◌≤◌, length, take};
 ghost use Rattle.answer.specs.Answer.{place};
@@ -13,7 +15,7 @@ use regions::host;
 use regions::host::{HostCursor, NextHost};
 
 // A fill's answer: how long the text at the front of its buffer is and how many files were taken in, no region, or a refusal.
-#[derive(Drop)]
+#[derive(Clone, Copy)]
 pub enum Filled {
     Text { length: usize, files: usize },
     NoRegion,
@@ -21,7 +23,7 @@ pub enum Filled {
 }
 
 // Where a region stands: the opener's line, the target level, and how long the text through the opener is.
-#[derive(Drop)]
+#[derive(Clone, Copy)]
 pub struct Spot {
     pub line: usize,
     pub target: usize,
@@ -29,7 +31,7 @@ pub struct Spot {
 }
 
 // What a fill does next: take a file in at a spot, and go on behind its region; or it is done.
-#[derive(Drop)]
+#[derive(Clone, Copy)]
 pub enum NextFile {
     Into {
         file: usize,

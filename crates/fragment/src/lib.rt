@@ -1,3 +1,5 @@
+#![tactic(auto)]
+
 // Filling in the fragment regions of a file. `fill_regions` and `embed` call each other: the files on the chain are marked, and each level has its text at
 // the front of its buffer, up to the limit, and lends what lies past the limit to the next.
 ghost use Rattle.std.specs.Prelude.{◌≡◌, suc, ◌*◌, ◌<◌, ◌≤◌, length, take};

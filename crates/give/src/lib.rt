@@ -1,3 +1,5 @@
+#![tactic(auto)]
+
 // What a call gives once its text stands at the front of the work buffer.
 ghost use Rattle.std.specs.Prelude.{◌≡◌, length};
 ghost use Rattle.book.specs.Calls.{work_after};

@@ -10,14 +10,14 @@ use crate::walk;
 use crate::walk::LineKind;
 use text::lines;
 
-#[derive(Drop)]
+#[derive(Clone, Copy)]
 pub enum TopLevel {
     Level(usize),
     NoHeading,
 }
 
 // The level that a heading moves to, or none of 1 to 6.
-#[derive(Drop)]
+#[derive(Clone, Copy)]
 pub enum Moved {
     To(usize),
     Past,

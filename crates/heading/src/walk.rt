@@ -7,7 +7,7 @@ ghost use Rattle.fence.specs.declared.Fence.TheVariants.{Outside};
 use fence::Fence;
 use text::{pattern, space};
 
-#[derive(Drop)]
+#[derive(Clone, Copy)]
 pub enum LineKind {
     // In a fence, its opener and its closer with it.
     Quoted,
@@ -20,14 +20,14 @@ pub enum LineKind {
     Other,
 }
 
-#[derive(Drop)]
+#[derive(Clone, Copy)]
 pub struct WalkState {
     pub fence: Fence,
     pub comment: bool,
 }
 
 // What a line is, and the state after it.
-#[derive(Drop)]
+#[derive(Clone, Copy)]
 pub struct WalkStep {
     pub kind: LineKind,
     pub state: WalkState,

@@ -4,7 +4,7 @@ use Prim.Native.Nat.{ℕ, ◌+◌, ◌-◌, ◌≤◌, ◌<◌}
 use native.Mathlib.Nat.{not-suc-le-zero, sub-zero}
 use native.Mathlib.Omega.{arith}
 use mathlib.Core.Path.{◌≡◌, refl}
-use mathlib.Core.Bool.{Bool, true, false, cond, not, and_true}
+use mathlib.Core.Bool.{Bool, true, false, cond, not, and-true}
 use mathlib.Core.List.{List, [], ◌∷◌}
 use lib.ListN.{length, take, drop, get_or, length-drop}
 use lib.Seq.{length-take-le}
@@ -39,7 +39,7 @@ module _ (s : List ℕ) where
 needless_by : (s : List ℕ) (b : Bool) → 1 < length s → eqb (get_or s 0 0) 0x30 ≡ b → is_needless s ≡ b
 unfolding starts_with
 needless_by [] b h e = absurd (not-suc-le-zero h)
-needless_by (x ∷ s) b h e = rw (le-leb 2 (length (x ∷ s)) h, e) (and_true b)
+needless_by (x ∷ s) b h e = rw (le-leb 2 (length (x ∷ s)) h, e) (and-true b)
 
 -- a field by its length and its first byte
 module _ (s : List ℕ) where

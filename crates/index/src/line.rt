@@ -8,7 +8,7 @@ use buffer::decimal::Number;
 use text::bytes;
 
 // A record: how long the name is, and start and length of the file's part.
-#[derive(Drop)]
+#[derive(Clone, Copy)]
 pub enum IndexLine {
     Fields {
         name: usize,

@@ -9,7 +9,7 @@ use text::pattern::Found;
 use text::{lines, pattern};
 
 // Where a record's name starts and ends in the index, and start and length of its file's part of the contents.
-#[derive(Drop)]
+#[derive(Clone, Copy)]
 pub struct Row {
     pub name: usize,
     pub end: usize,
@@ -18,7 +18,7 @@ pub struct Row {
 }
 
 // How many records an index has, or its first line that is ill formed.
-#[derive(Drop)]
+#[derive(Clone, Copy)]
 pub enum IndexRead {
     Records(usize),
     IllFormedAt(usize),

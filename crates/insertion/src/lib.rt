@@ -1,3 +1,5 @@
+#![tactic(auto)]
+
 // The lines of a file that is taken in, put behind the running text of its host.
 ghost use Rattle.std.specs.Prelude.{◌≡◌, ◌≤◌, length, take};
 ghost use Rattle.text.specs.Lines.{pieces};
@@ -15,7 +17,7 @@ pub mod plan;
 pub mod read;
 
 // What is embedded where: the opener's place, the target level, the file's number, the limit, and how long the running text is.
-#[derive(Drop)]
+#[derive(Clone, Copy)]
 pub struct Insertion {
     pub opener: Place,
     pub target: usize,
@@ -25,7 +27,7 @@ pub struct Insertion {
 }
 
 // How long the running text is now, or a refusal.
-#[derive(Drop)]
+#[derive(Clone, Copy)]
 pub enum Inserted {
     To(usize),
     Refused(Refusal),

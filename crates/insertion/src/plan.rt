@@ -5,7 +5,7 @@ ghost use Rattle.insertion.specs.Plans.{PlanOf};
 use shift::level::Shift;
 use shift::{ends, level};
 
-#[derive(Drop)]
+#[derive(Clone, Copy)]
 pub enum Plan {
     // All its lines are blank.
     Nothing,

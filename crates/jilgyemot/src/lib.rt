@@ -1,3 +1,5 @@
+#![tactic(auto)]
+
 // The C interface of Jilgyemot, and nothing else.
 ghost use Rattle.book.specs.Promises.{ScanCall, FillCall, AssembleCall, BookCall};
 

@@ -1,3 +1,5 @@
+#![tactic(auto)]
+
 // A member behind the text so far, with what joins it: 16, then its lines, then 17.
 ghost use Rattle.std.specs.Prelude.{◌++◌, ◌≡◌, ◌≤◌, ◌<◌, length, take};
 ghost use Rattle.std.specs.Int.Signed.{mag};
@@ -13,7 +15,7 @@ use shift::level::Shift;
 mod read;
 
 // An assembly's answer: how long the text at the front of its buffer is, or a refusal.
-#[derive(Drop)]
+#[derive(Clone, Copy)]
 pub enum Assembled {
     Text(usize),
     Refused(Refusal),

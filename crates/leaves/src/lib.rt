@@ -1,3 +1,5 @@
+#![tactic(auto)]
+
 // Leaf functions of the library for C, for tests of the host alone: each answers six numbers.
 ghost use Rattle.std.specs.Prelude.{◌≡◌, length};
 ghost use Rattle.std.proofs.lemmas.List.Edits.{sets};

@@ -1,3 +1,5 @@
+#![tactic(auto)]
+
 // What one line of a text gives, put into a sink.
 ghost use Rattle.std.specs.Prelude.{◌≡◌, map, ◌+◌, ◌<◌, ◌^◌, length};
 ghost use Rattle.scan.specs.Scan.{read_line, span_events, closed_by, kind_at, events_of};
@@ -13,7 +15,7 @@ use scan::state;
 use scan::state::{OpenRegion, State};
 
 // Where what follows the spans of a line goes, and how their reading stopped.
-#[derive(Drop)]
+#[derive(Clone, Copy)]
 pub struct Spans {
     pub to: To,
     pub stop: Stop,

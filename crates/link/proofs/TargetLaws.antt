@@ -2,7 +2,7 @@
 use Prim.Native.Nat.{ℕ, ◌≤◌}
 use native.Mathlib.Omega.{arith}
 use mathlib.Core.Path.{◌≡◌, subst}
-use mathlib.Core.Bool.{Bool, true, false, cond, ◌||◌, and_false}
+use mathlib.Core.Bool.{Bool, true, false, cond, ◌||◌, and-false}
 use mathlib.Core.List.{List}
 use lib.ListN.{length, take, drop, length-drop}
 use lib.Seq.{drop-length}
@@ -42,7 +42,7 @@ module _ (host dir t : List ℕ) where
   module _ (e : ℕ) (p : target_of t ≡ Path e) where
     pub anchor_bare : e ≡ length t → t ≡ anchor_self host dir t
     unfolding anchor_self
-    anchor_bare q = rw (p, q, drop-length t, and_false (equals host (resolve dir (take (length t) t))))
+    anchor_bare q = rw (p, q, drop-length t, and-false (equals host (resolve dir (take (length t) t))))
 
     pub anchor_host : (e ≡ length t → ⊥) → equals host (resolve dir (take e t)) ≡ true → drop e t ≡ anchor_self host dir t
     unfolding anchor_self

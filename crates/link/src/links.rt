@@ -6,7 +6,7 @@ use text::pattern::Found;
 use text::{bytes, pattern};
 
 // Where a link's target starts and ends, or that no link follows.
-#[derive(Drop)]
+#[derive(Clone, Copy)]
 pub enum NextLink {
     Link { start: usize, end: usize },
     NoLink,

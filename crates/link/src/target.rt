@@ -5,7 +5,7 @@ ghost use Rattle.link.specs.Target.{is_right, target_of, trim_slashes, anchor_se
 use text::{bytes, pattern};
 
 // A target that stays as it is, or a path up to a place, from which on it is the fragment.
-#[derive(Drop)]
+#[derive(Clone, Copy)]
 pub enum Target {
     Untouched,
     Path(usize),

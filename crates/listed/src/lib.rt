@@ -1,3 +1,5 @@
+#![tactic(auto)]
+
 // The members that list lines name, each as it stands in the contents.
 ghost use Rattle.std.specs.Prelude.{◌≡◌, ◌+◌, ◌≤◌, ◌<◌, length};
 ghost use Rattle.listed.specs.Files.{no_outline, member_of, AreListed, AreFiles};

@@ -1,3 +1,5 @@
+#![tactic(auto)]
+
 // The scan call of document 01: spans, regions and problems of a text, as a listing.
 ghost use Rattle.std.specs.Prelude.{◌≡◌, length};
 ghost use Rattle.listing.specs.ScanCall.{answer_of, output_of};

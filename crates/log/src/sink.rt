@@ -7,7 +7,7 @@ use crate::word::Kept;
 use rows::Places;
 use scan::event::Event;
 
-#[derive(Drop)]
+#[derive(Clone, Copy)]
 pub struct To {
     pub at: Places,
     pub kept: Kept,

@@ -4,7 +4,7 @@ ghost use Rattle.log.specs.Log.{word as word_of, gap as gap_of, region_kind, spa
 
 use scan::event::{Event, LineStart, Part, Region, Span};
 
-#[derive(Drop)]
+#[derive(Clone, Copy)]
 pub enum Packed {
     Word(usize),
     // The event has a number that is too large for a word.
@@ -12,7 +12,7 @@ pub enum Packed {
 }
 
 // How many words a log has, and whether every event so far is among them.
-#[derive(Drop)]
+#[derive(Clone, Copy)]
 pub struct Kept {
     pub words: usize,
     pub whole: bool,

@@ -1,3 +1,5 @@
+#![tactic(auto)]
+
 // The members of a book: each filled in its slot of the work buffer, or kept as it stands in the contents.
 ghost use Rattle.std.specs.Prelude.{◌≡◌, ◌+◌, length, take, drop};
 ghost use Rattle.chains.specs.Chains.{start_at};
@@ -14,7 +16,7 @@ use opening::Filling;
 use put::Source;
 
 // All members are made, with the number of files taken in, or one is refused.
-#[derive(Drop)]
+#[derive(Clone, Copy)]
 pub enum Made {
     All(usize),
     Refused(Refusal),

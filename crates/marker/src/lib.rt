@@ -1,3 +1,5 @@
+#![tactic(auto)]
+
 // What a line is to the marker scan of document 01, and the markers in it.
 pub mod line;
 pub mod span;

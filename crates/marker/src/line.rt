@@ -16,7 +16,7 @@ const SPEC_END: usize = 4;
 const PEER: usize = 5;
 
 // A line that is alone a fragment marker: where its path stands, and whether it is a peer. Or another line.
-#[derive(Drop)]
+#[derive(Clone, Copy)]
 pub enum Fragment {
     Path {
         start: usize,
@@ -26,7 +26,7 @@ pub enum Fragment {
     Other,
 }
 
-#[derive(Drop)]
+#[derive(Clone, Copy)]
 pub enum Kind {
     // No marker.
     Plain,

@@ -7,7 +7,7 @@ use text::pattern;
 use text::pattern::Found;
 
 // What is read at a marker: where a span's spec and text stand, or the number of a problem.
-#[derive(Drop)]
+#[derive(Clone, Copy)]
 pub enum Mark {
     Marked {
         spec_start: usize,
@@ -21,7 +21,7 @@ pub enum Mark {
 }
 
 // How the reading of a line's spans stopped: at a problem, by its number, or at the end of the last span.
-#[derive(Drop)]
+#[derive(Clone, Copy)]
 pub enum Stop {
     AtProblem(usize),
     AtSpanEnd,

@@ -1,3 +1,5 @@
+#![tactic(auto)]
+
 // Prints the listing of a scan of the first 16,384 bytes of standard input, or the number and the line of a refusal.
 use answer::Answer;
 use libc::{STDIN_FILENO, STDOUT_FILENO};

@@ -1,3 +1,5 @@
+#![tactic(auto)]
+
 // The table of marks. An anchor's number has three places in it. A mark there tells of a file that has an anchor with such a number, by the file's number and
 // a print of the anchor's, or is MANY. So what stands at all three tells whether another file can have an anchor of that number; the table spares work
 // and decides nothing.

@@ -8,7 +8,7 @@ use heading::walk::{LineKind, WalkState};
 use text::{bytes, lines};
 
 // Where the next line starts, how many lines are kept before it, and the heading walk's state there. Behind the last line it is past the end.
-#[derive(Drop)]
+#[derive(Clone, Copy)]
 pub struct LineCursor {
     pub at: usize,
     pub line: usize,
@@ -16,7 +16,7 @@ pub struct LineCursor {
 }
 
 // A line by its ends, with what it is and the cursor behind it, or that none is left.
-#[derive(Drop)]
+#[derive(Clone, Copy)]
 pub enum NextLine {
     Line {
         start: usize,
@@ -28,7 +28,7 @@ pub enum NextLine {
 }
 
 // A heading: its level, where its text starts and ends, and the cursor behind its line.
-#[derive(Drop)]
+#[derive(Clone, Copy)]
 pub enum NextHeading {
     Next {
         level: usize,
@@ -40,7 +40,7 @@ pub enum NextHeading {
 }
 
 // Lines passed over: the cursor behind them, and where the last of them that is not empty ends.
-#[derive(Drop)]
+#[derive(Clone, Copy)]
 pub struct Passed {
     pub behind: LineCursor,
     pub end: usize,
@@ -68,7 +68,7 @@ fn last_end(old: usize, at: usize, end: usize) -> usize
 }
 
 // A line that is no heading and leaves the walk's state, by where it ends; or one that may be more.
-#[derive(Drop)]
+#[derive(Clone, Copy)]
 enum Still {
     To(usize),
     Unsure,

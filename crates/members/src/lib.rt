@@ -1,3 +1,5 @@
+#![tactic(auto)]
+
 // The members of an assembly, by what is known of each: eleven numbers a member, one member after the other.
 ghost use Rattle.std.specs.Prelude.{◌≡◌, ◌+◌, ◌*◌, ◌-◌, ◌≤◌, ◌<◌};
 ghost use Rattle.std.proofs.lemmas.List.Edits.{sets};
@@ -10,7 +12,7 @@ use put::Source;
 use shift::level::Levels;
 
 // Where its name stands in the index, its file's number for places, where its text lies, and once it is prepared its outline.
-#[derive(Drop)]
+#[derive(Clone, Copy)]
 pub struct Member {
     pub name: Extent,
     pub file: usize,

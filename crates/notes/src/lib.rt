@@ -1,3 +1,5 @@
+#![tactic(auto)]
+
 // Reads what arguments name into buffers, and makes the index of the notes. What fails is said on standard error.
 ghost use Rattle.std.specs.Prelude.{◌+◌, ◌≤◌, length};
 ghost use Rattle.notes.specs.Notes.{Moved, Ends};
@@ -8,7 +10,7 @@ use station::{record, shown};
 pub mod buffers;
 
 // Where a file that was read ends in its buffer; or that it can't be read, or that there is no room for it.
-#[derive(Drop)]
+#[derive(Clone, Copy)]
 pub enum Reading {
     To(usize),
     Unreadable,
@@ -16,7 +18,7 @@ pub enum Reading {
 }
 
 // What one read gave: so many bytes, the file's end, an error, or that there is no room.
-#[derive(Drop)]
+#[derive(Clone, Copy)]
 enum Turn {
     More(usize),
     End,

@@ -1,3 +1,5 @@
+#![tactic(auto)]
+
 // What stands before a region's file: the host's bytes through the opener's line, and the file that the region names.
 ghost use Rattle.std.specs.Prelude.{◌≡◌, List, ◌++◌, ℕ, ◌≤◌, length, take};
 ghost use Rattle.chains.specs.Chains.{next_named};
@@ -15,7 +17,7 @@ use text::pattern;
 use text::pattern::Found;
 
 // The file's number for places, how many records there are, the limit, the allowance, and how many files were taken in before.
-#[derive(Drop)]
+#[derive(Clone, Copy)]
 pub struct Filling {
     pub number: usize,
     pub count: usize,
@@ -25,14 +27,14 @@ pub struct Filling {
 }
 
 // The file that a region names, counted from 0, or a refusal.
-#[derive(Drop)]
+#[derive(Clone, Copy)]
 pub enum Named {
     File(usize),
     Refused(Refusal),
 }
 
 // The file to take in and how long the text through the opener is, or a refusal.
-#[derive(Drop)]
+#[derive(Clone, Copy)]
 pub enum Opened {
     Onto { file: usize, length: usize },
     Refused(Refusal),

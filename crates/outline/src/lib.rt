@@ -1,3 +1,5 @@
+#![tactic(auto)]
+
 // What is known of a member once it is prepared.
 ghost use Rattle.std.specs.Prelude.{true, cond, ◌≡◌, ◌+◌, ◌≤◌};
 ghost use Rattle.std.specs.Int.Signed.{mag};
@@ -16,28 +18,28 @@ use shift::level::{Levels, Shift};
 use text::space;
 
 // Where a text starts and ends in a member.
-#[derive(Drop)]
+#[derive(Clone, Copy)]
 pub struct Extent {
     pub start: usize,
     pub end: usize,
 }
 
 // Where its lines end without blank ones, where its title's text stands, and the levels of its other headings.
-#[derive(Drop)]
+#[derive(Clone, Copy)]
 pub struct Outline {
     pub end: usize,
     pub title: Extent,
     pub levels: Levels,
 }
 
-#[derive(Drop)]
+#[derive(Clone, Copy)]
 pub enum Outlined {
     Titled(Outline),
     Untitled,
 }
 
 // The outline of the lines seen so far, and whether there is a title among them.
-#[derive(Drop)]
+#[derive(Clone, Copy)]
 struct Seen {
     titled: bool,
     outline: Outline,

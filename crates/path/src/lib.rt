@@ -1,3 +1,5 @@
+#![tactic(auto)]
+
 // The parts of a path in a directory, and where a name has them. They are found from the last to the first, so that `..` comes before the part
 // that it drops, and no buffer is needed.
 ghost use Rattle.std.specs.Prelude.{◌≡◌, suc, ◌+◌, ◌≤◌, length, take};
@@ -8,7 +10,7 @@ use text::pattern::Found;
 use text::{bytes, pattern};
 
 // A part that is kept, by its ends, or none and how many parts are still to be dropped.
-#[derive(Drop)]
+#[derive(Clone, Copy)]
 pub enum BackPart {
     Kept { start: usize, end: usize },
     Above(usize),
@@ -16,14 +18,14 @@ pub enum BackPart {
 
 // What is left of a path, seen from its end: the first `left - 1` bytes of the directory, or of the path with the directory before it; with
 // `left` 0 none.
-#[derive(Drop)]
+#[derive(Clone, Copy)]
 pub struct PathCursor {
     pub inside: bool,
     pub left: usize,
 }
 
 // A part that is kept, by what is left before it and where it ends; or none.
-#[derive(Drop)]
+#[derive(Clone, Copy)]
 pub enum PathPart {
     Part { before: PathCursor, end: usize },
     Root,

@@ -1,3 +1,5 @@
+#![tactic(auto)]
+
 // What a link points to, as it is put: `#` and the anchor of a title, or a path at the repository.
 ghost use Rattle.std.specs.Prelude.{◌∷◌, ◌++◌, ◌-◌, ◌≤◌, length, take, drop};
 ghost use Rattle.text.specs.Pattern.{bytes};

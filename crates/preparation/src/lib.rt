@@ -1,3 +1,5 @@
+#![tactic(auto)]
+
 // Members prepared one after the other.
 ghost use Rattle.std.specs.Prelude.{◌≡◌, length};
 ghost use Rattle.preparation.specs.Preparation.{CanPrepare, ReadyOf};
@@ -9,7 +11,7 @@ use outline::Outlined;
 mod read;
 
 // All members are prepared, or 18 at the first that has no title.
-#[derive(Drop)]
+#[derive(Clone, Copy)]
 pub enum Ready {
     All,
     Refused(Refusal),

@@ -1,3 +1,5 @@
+#![tactic(auto)]
+
 // What is put at a place of the work buffer, within the limit, and the texts that are read meanwhile.
 ghost use Rattle.std.specs.Prelude.{[], ◌≡◌, ◌+◌, ◌≤◌, length};
 ghost use Rattle.text.specs.Bytes.{part};
@@ -9,7 +11,7 @@ use heading::level;
 pub mod line;
 
 // A text that lies in the contents, or in the work buffer from the limit on.
-#[derive(Drop)]
+#[derive(Clone, Copy)]
 pub struct Source {
     pub work: bool,
     pub start: usize,
@@ -17,14 +19,14 @@ pub struct Source {
 }
 
 // A place of the work buffer, and the limit.
-#[derive(Drop)]
+#[derive(Clone, Copy)]
 pub struct Room {
     pub at: usize,
     pub limit: usize,
 }
 
 // The place after what was put, or that it went over the limit.
-#[derive(Drop)]
+#[derive(Clone, Copy)]
 pub enum Put {
     To(usize),
     Over,

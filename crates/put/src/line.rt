@@ -8,7 +8,7 @@ use heading::level::Moved;
 use heading::walk::LineKind;
 
 // What a line becomes: a heading with a level, or with level 0 no heading; and where its text starts and ends.
-#[derive(Drop)]
+#[derive(Clone, Copy)]
 pub struct NewText {
     pub level: usize,
     pub start: usize,

@@ -1,3 +1,5 @@
+#![tactic(auto)]
+
 // The lines of a file that is taken in, as they become in its host, put behind the running text: their headings moved, and links that name the host made anchors.
 ghost use Rattle.std.specs.Prelude.{◌++◌, ◌+◌, ◌≤◌, length};
 ghost use Rattle.std.specs.Int.Signed.{mag};

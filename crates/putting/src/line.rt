@@ -9,7 +9,7 @@ use put::line::NewText;
 use text::lines;
 
 // Where a line ends, whether it is the last, what it becomes and the walk's state after it.
-#[derive(Drop)]
+#[derive(Clone, Copy)]
 pub struct LineStep {
     pub end: usize,
     pub last: bool,

@@ -3,7 +3,7 @@ use Prim.Native.Nat.{ℕ, zero, suc, ◌+◌, ◌-◌, ◌≤◌, ◌<◌}
 use native.Mathlib.Nat.{add-zero}
 use native.Mathlib.Omega.{arith}
 use mathlib.Core.Path.{◌≡◌, refl, ◌∙◌, ap}
-use mathlib.Core.Bool.{true, false, cond, and_false}
+use mathlib.Core.Bool.{true, false, cond, and-false}
 use mathlib.Core.List.{List, [], ◌∷◌, ◌++◌}
 use lib.ListN.{length, take, drop, replicate, length-drop}
 use lib.Seq.{drop-drop}
@@ -47,7 +47,7 @@ module _ (n : ℕ) (g : Region) (gs : List Region) where
   -- a line past g's closer
   pub within-past : g.closer.line < n → is_within n (g ∷ gs) ≡ is_within n gs
   unfolding is_within
-  within-past h = rw (lt-leb n g.closer.line h, and_false)
+  within-past h = rw (lt-leb n g.closer.line h, and-false)
 
   -- a line of g
   pub within-here : g.opener.line ≤ n → n ≤ g.closer.line → is_within n (g ∷ gs) ≡ true

@@ -15,7 +15,7 @@ use scan::region::Cursor;
 use text::bytes;
 
 // Behind a region, or at the start of a host.
-#[derive(Drop)]
+#[derive(Clone, Copy)]
 pub struct HostCursor {
     // Where the line behind the closer starts, and how many lines stand before it.
     pub at: usize,
@@ -32,7 +32,7 @@ pub struct HostCursor {
 }
 
 // A region as a fill needs it: the opener's line, where that line ends (its LF or the text's end), the path's place, the target level, and whether 12 stands there.
-#[derive(Drop)]
+#[derive(Clone, Copy)]
 pub struct Opening {
     pub line: usize,
     pub end: usize,
@@ -41,7 +41,7 @@ pub struct Opening {
     pub headless: bool,
 }
 
-#[derive(Drop)]
+#[derive(Clone, Copy)]
 pub enum NextHost {
     Whole(Opening, HostCursor),
     NoMore,

@@ -14,14 +14,14 @@ use scan::region::{Cursor, NextRegion};
 use text::lines;
 
 // The heading walk behind lines: its state, the level of the last heading, and the shallowest level.
-#[derive(Drop)]
+#[derive(Clone, Copy)]
 pub struct Own {
     pub state: WalkState,
     pub above: TopLevel,
     pub top: TopLevel,
 }
 
-#[derive(Drop)]
+#[derive(Clone, Copy)]
 pub enum NextOwn {
     // A region, the cursor behind its closer, and the walk at its opener.
     Before(Region, Cursor, Own),

@@ -1,3 +1,5 @@
+#![tactic(auto)]
+
 // Scans the stored cases of standard input and prints each answer: the six numbers, the listing if the text was accepted, and the outline if it is ASCII.
 ghost use Rattle.std.specs.Prelude.{◌≡◌, length};
 

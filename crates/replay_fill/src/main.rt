@@ -1,3 +1,5 @@
+#![tactic(auto)]
+
 // Fills the stored cases of standard input and prints each answer: the six numbers, and the text if there is one.
 ghost use Rattle.std.specs.Prelude.{◌≤◌, length};
 ghost use Rattle.stored.specs.Case.{Small};

@@ -1,3 +1,5 @@
+#![tactic(auto)]
+
 // What is said on standard error of a refusal: its place, its sentence and its number.
 ghost use Rattle.std.specs.Prelude.{◌≡◌, ◌≤◌};
 ghost use Rattle.report.specs.Report.{argument_of, bounded_of};

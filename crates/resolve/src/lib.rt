@@ -1,3 +1,5 @@
+#![tactic(auto)]
+
 // Paths in a directory, resolved: how long they are, written into a buffer, and compared with a name. Their parts are found from the last to
 // the first.
 ghost use Rattle.std.specs.Prelude.{◌≡◌, ◌+◌, ◌-◌, ◌≤◌, ◌<◌, [], length, drop};
@@ -13,7 +15,7 @@ use path::{PathCursor, PathPart};
 use text::pattern::Found;
 
 // Where a resolved path starts in a buffer at whose end it stands; or that it is longer than the buffer.
-#[derive(Drop)]
+#[derive(Clone, Copy)]
 pub enum Resolved {
     From(usize),
     Long,

@@ -1,3 +1,5 @@
+#![tactic(auto)]
+
 // A line's links rewritten as it is put behind the text so far.
 ghost use Rattle.std.specs.Prelude.{◌-◌, length};
 ghost use Rattle.link.specs.Links.{relink};

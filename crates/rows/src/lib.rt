@@ -1,3 +1,5 @@
+#![tactic(auto)]
+
 // The rows of a listing, written into one buffer at three places, one a kind.
 ghost use Rattle.std.specs.Prelude.{◌≡◌, ◌≤◌, length, take, drop};
 ghost use Rattle.rows.specs.Row.{row_of, row as row_of_event};
@@ -8,7 +10,7 @@ use scan::event::Event;
 use text::bytes;
 
 // Where the next span, region and problem go.
-#[derive(Drop)]
+#[derive(Clone, Copy)]
 pub struct Places {
     pub spans: usize,
     pub regions: usize,

@@ -1,3 +1,5 @@
+#![tactic(auto)]
+
 // Saves a text: to a new file beside the one named, which then takes its name. So the name has the old text or the new one, whole.
 ghost use Rattle.std.specs.Prelude.{◌≤◌, length};
 

@@ -6,7 +6,7 @@ use native.Mathlib.Nat.{zero-add}
 use native.Mathlib.Numerals.{add-one, add-two}
 use native.Mathlib.Omega.{arith}
 use mathlib.Core.Path.{◌≡◌, refl, sym, ap, ◌∙◌}
-use mathlib.Core.Bool.{Bool, true, false, ◌&&◌, ◌||◌, false≢true, and_false, or_assoc, or_false}
+use mathlib.Core.Bool.{Bool, true, false, ◌&&◌, ◌||◌, false≢true, and-false, or_assoc, or-false}
 use mathlib.Core.List.{List, [], ◌∷◌, ◌++◌}
 use lib.ListN.{length, take, drop, get_or, length-drop}
 use lib.Seq.{drop-cons, drop-drop, take-take, take-nil}
@@ -63,7 +63,7 @@ module _ (g : ℕ → ℕ → ℕ → Bool) where
   three-short (x ∷ y ∷ z ∷ l) h = absurd (omega arith)
 
   pub three-end : (s : List ℕ) (i : ℕ) (h : Bool) → length s - i ≤ 2 → (h || any_three g (drop i s)) ≡ h
-  three-end s i h p = rw (three-short (drop i s) (omega (arith, length-drop i s))) (or_false h)
+  three-end s i h p = rw (three-short (drop i s) (omega (arith, length-drop i s))) (or-false h)
 
   -- a part of a text without such a place has none
   three-tail : (x : ℕ) (l : List ℕ) → any_three g (x ∷ l) ≡ false → any_three g l ≡ false
@@ -136,8 +136,8 @@ module _ (g : ℕ → ℕ → ℕ → Bool) where
   pub three-starts : (a b c : ℕ) (p l : List ℕ) → g a b c ≡ true → any_three g l ≡ false → starts_with (a ∷ b ∷ c ∷ p) l ≡ false
   unfolding starts_with any_three
   three-starts a b c p [] h e = refl
-  three-starts a b c p (x ∷ []) h e = and_false (eqb x a)
-  three-starts a b c p (x ∷ y ∷ []) h e = rw (and_false (eqb y b)) (and_false (eqb x a))
+  three-starts a b c p (x ∷ []) h e = and-false (eqb x a)
+  three-starts a b c p (x ∷ y ∷ []) h e = rw (and-false (eqb y b)) (and-false (eqb x a))
   three-starts a b c p (x ∷ y ∷ z ∷ l) h e = go (eqb x a) (eqb y b) (eqb z c) refl refl refl
     where
       go : (q r t : Bool) → eqb x a ≡ q → eqb y b ≡ r → eqb z c ≡ t → (q && (r && (t && starts_with p l))) ≡ false
@@ -153,7 +153,7 @@ module _ (g : ℕ → ℕ → ℕ → Bool) where
   unfolding starts_with
   three-starts-in [] a b c p l h e = three-starts a b c p l h e
   three-starts-in (d ∷ q) a b c p [] h e = refl
-  three-starts-in (d ∷ q) a b c p (x ∷ l) h e = rw (three-starts-in q a b c p l h (three-tail x l e)) (and_false (eqb x d))
+  three-starts-in (d ∷ q) a b c p (x ∷ l) h e = rw (three-starts-in q a b c p l h (three-tail x l e)) (and-false (eqb x d))
 
   pub three-find : (q : List ℕ) (a b c : ℕ) (p l : List ℕ) → g a b c ≡ true → any_three g l ≡ false → find (q ++ a ∷ b ∷ c ∷ p) l ≡ Nothing
   unfolding find
@@ -181,8 +181,8 @@ traced x y z e = go (eqb x 0x2D) (eqb z 0x5B) refl refl
     go true true i j =
         let d : eqb (bit_xor x z) 0x76 ≡ false = or_right (eqb x 0x60 || eqb x 0x7E) (eqb (bit_xor x z) 0x76) e in
         absurd (false≢true (sym (rw (eqb-true x 0x2D i, eqb-true z 0x5B j) at d)))
-    go true false i j = rw (marks, and_false (eqb x z)) (and_false (eqb x y))
-    go false r i j = rw (marks, and_false (eqb x z)) (and_false (eqb x y))
+    go true false i j = rw (marks, and-false (eqb x z)) (and-false (eqb x y))
+    go false r i j = rw (marks, and-false (eqb x z)) (and-false (eqb x y))
 
 pub no_trace : (l : List ℕ) → any_three trace l ≡ false → any_three hint l ≡ false
 no_trace l e = three-fewer trace hint traced l e

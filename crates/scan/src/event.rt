@@ -1,20 +1,20 @@
 // What a scan finds. Lines count from 1; a place is the count of the bytes before it.
 
 // From a place up to, not including, another.
-#[derive(Drop)]
+#[derive(Clone, Copy)]
 pub struct Part {
     pub start: usize,
     pub end: usize,
 }
 
 // A line's number, and where it starts.
-#[derive(Drop)]
+#[derive(Clone, Copy)]
 pub struct LineStart {
     pub line: usize,
     pub at: usize,
 }
 
-#[derive(Drop)]
+#[derive(Clone, Copy)]
 pub struct Span {
     pub line: usize,
     pub spec: Part,
@@ -22,7 +22,7 @@ pub struct Span {
 }
 
 // A whole region: its marker lines, and its path.
-#[derive(Drop)]
+#[derive(Clone, Copy)]
 pub struct Region {
     pub opener: LineStart,
     pub closer: LineStart,
@@ -30,7 +30,7 @@ pub struct Region {
     pub peer: bool,
 }
 
-#[derive(Drop)]
+#[derive(Clone, Copy)]
 pub enum Event {
     OfSpan(Span),
     OfRegion(Region),

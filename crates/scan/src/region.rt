@@ -9,13 +9,13 @@ use crate::{seek, state};
 use marker::line::Kind;
 
 // Where a line starts outside regions and fences, and how many lines stand before it.
-#[derive(Drop)]
+#[derive(Clone, Copy)]
 pub struct Cursor {
     pub at: usize,
     pub line: usize,
 }
 
-#[derive(Drop)]
+#[derive(Clone, Copy)]
 pub enum NextRegion {
     // A region, and the cursor after its closer.
     Whole(Region, Cursor),

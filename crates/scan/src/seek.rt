@@ -6,7 +6,7 @@ ghost use Rattle.scan.specs.Skip.{any_three, trace, hint, Sought};
 use text::{bytes, lines};
 
 // A line: its number, where it starts and ends, and where the next one starts. Or the text's end.
-#[derive(Drop)]
+#[derive(Clone, Copy)]
 pub enum Seek {
     LineAt {
         number: usize,

@@ -7,20 +7,20 @@ use marker::line;
 use marker::line::Kind;
 
 // The opener of a region: its line, where its path stands, and whether it is a peer.
-#[derive(Drop)]
+#[derive(Clone, Copy)]
 pub struct Opener {
     pub marker: LineStart,
     pub path: Part,
     pub peer: bool,
 }
 
-#[derive(Drop)]
+#[derive(Clone, Copy)]
 pub enum OpenRegion {
     Closed,
     Open(Opener),
 }
 
-#[derive(Drop)]
+#[derive(Clone, Copy)]
 pub struct State {
     pub fence: bool,
     pub region: OpenRegion,

@@ -5,7 +5,7 @@ ghost use Rattle.self_links.specs.Cuts.{FoundCut};
 use link::links::NextLink;
 use link::{links, target};
 
-#[derive(Drop)]
+#[derive(Clone, Copy)]
 pub enum Cut {
     // The bytes from start up to end go, and the search goes on at next, the link's `)`.
     Bytes {

@@ -1,3 +1,5 @@
+#![tactic(auto)]
+
 // A text that is put without the bytes of links that name its host: such a link is an anchor there.
 ghost use Rattle.put.specs.Put.{source_text, Able, Wrote};
 ghost use Rattle.self_links.specs.Cuts.{linked_text};

@@ -1,3 +1,5 @@
+#![tactic(auto)]
+
 // Prints the sentence of each refusal, a line each: its number, a tab and the sentence, with {} where a name stands.
 use libc::STDOUT_FILENO;
 

@@ -1,3 +1,5 @@
+#![tactic(auto)]
+
 // Shared anchors: the first heading whose anchor an earlier member of another name has.
 ghost use Rattle.std.specs.Prelude.{◌≡◌, [], ◌+◌, ◌≤◌, ◌<◌, length, take};
 ghost use Rattle.text.specs.Bytes.{part};
@@ -12,7 +14,7 @@ use member::lines::NextHeading;
 mod read;
 
 // The places of a heading and of an earlier one with its anchor, or that there are none.
-#[derive(Drop)]
+#[derive(Clone, Copy)]
 pub enum Shared {
     Nowhere,
     At(Place, Place),

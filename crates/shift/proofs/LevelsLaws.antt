@@ -3,7 +3,7 @@ use Prim.Native.Nat.{ℕ, zero, suc, ◌+◌, ◌≤◌, max}
 use native.Mathlib.Nat.{max-eq_left, max-eq_right}
 use native.Mathlib.Omega.{arith}
 use mathlib.Core.Path.{◌≡◌, refl, sym, subst, ap, ◌∙◌}
-use mathlib.Core.Bool.{Bool, true, false, or_false}
+use mathlib.Core.Bool.{Bool, true, false, or-false}
 use mathlib.Core.List.{List, [], ◌∷◌}
 use lib.ListN.{length}
 use lib.IntN.{ℤ, pos, ◌+ℤ◌}
@@ -99,7 +99,7 @@ module _ {z : ℤ} {ks rest more : List LineKind} {k : LineKind} {n : ℕ} (h : 
 -- it is the last line
 pub ahead_last : {z : ℤ} {ks rest : List LineKind} {k : LineKind} {n : ℕ} (st : WalkState) → Ahead z ks rest n → rest ≡ k ∷ kinds_from st [] → n + 1 ≡ 1 + first_past z ks
 unfolding any_past kinds_from
-ahead_last {z} {k = k} st h p = ahead_here h p (sym (rw (p, or_false) at h.some))
+ahead_last {z} {k = k} st h p = ahead_here h p (sym (rw (p, or-false) at h.some))
 
 -- x is the shift to a target
 module _ (s : List ℕ) (target : ℕ) {top : TopLevel} {d : ℕ} (a : AreLevels (kinds_in s) top d) (x : ℤ) (r : x ≡ shift_of target top) where

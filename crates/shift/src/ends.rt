@@ -3,7 +3,7 @@ ghost use Rattle.shift.specs.Ends.{AreEnds};
 
 use text::{bytes, space};
 
-#[derive(Drop)]
+#[derive(Clone, Copy)]
 pub struct Ends {
     pub start: usize,
     pub end: usize,

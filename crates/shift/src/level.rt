@@ -10,14 +10,14 @@ use heading::{level, walk};
 use text::lines;
 
 // The shift, or the first line whose heading it takes past level 6.
-#[derive(Drop)]
+#[derive(Clone, Copy)]
 pub enum Shift {
     By(i32),
     PastAt(usize),
 }
 
 // The shallowest level of headings, and the deepest, 0 where there is none.
-#[derive(Drop)]
+#[derive(Clone, Copy)]
 pub struct Levels {
     pub top: TopLevel,
     pub deepest: usize,

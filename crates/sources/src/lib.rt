@@ -1,3 +1,5 @@
+#![tactic(auto)]
+
 // Targets and titles read where they lie while the work buffer is written: only these functions look there.
 ghost use Rattle.std.specs.Prelude.{◌≡◌, length};
 ghost use Rattle.anchor.specs.Anchor.{slug, anchor_from, CursorWithin, NextByte};

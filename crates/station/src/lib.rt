@@ -1,3 +1,5 @@
+#![tactic(auto)]
+
 // What a call on files of a disk needs beside their texts: the records of an index, the limit, and what stands on a line of a note.
 ghost use Rattle.std.specs.Prelude.{◌≡◌, ◌≤◌};
 ghost use Rattle.station.specs.Station.{largest_limit};

@@ -8,7 +8,7 @@ use marker::line::Kind;
 use text::lines;
 
 // Where something starts and ends.
-#[derive(Drop)]
+#[derive(Clone, Copy)]
 pub struct Extent {
     pub start: usize,
     pub end: usize,

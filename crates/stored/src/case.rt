@@ -17,7 +17,7 @@ const MOST_ROOM: usize = 65_536;
 const MOST_ALLOWANCE: usize = 999_999;
 
 // Where contents, third and fourth text start in what is handed in, and where that ends.
-#[derive(Drop)]
+#[derive(Clone, Copy)]
 pub struct Starts {
     pub contents: usize,
     pub third: usize,
@@ -25,7 +25,7 @@ pub struct Starts {
     pub end: usize,
 }
 
-#[derive(Drop)]
+#[derive(Clone, Copy)]
 pub struct Limits {
     pub limit: usize,
     pub allowance: usize,
@@ -34,7 +34,7 @@ pub struct Limits {
 }
 
 // A case, or that there is none: at the input's end, or where it is ill formed or too large, which is printed.
-#[derive(Drop)]
+#[derive(Clone, Copy)]
 pub enum NextCase {
     Handed { at: Starts, limits: Limits },
     Nothing,

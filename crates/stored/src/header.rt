@@ -5,7 +5,7 @@ ghost use Rattle.stored.specs.Header.{numbers_of, header_of};
 use buffer::decimal;
 use buffer::decimal::Number;
 
-#[derive(Drop)]
+#[derive(Clone, Copy)]
 pub enum Header {
     Numbers(usize, usize),
     IllFormed,

@@ -1,3 +1,5 @@
+#![tactic(auto)]
+
 // Stored cases: the headers that a program reads, and the answers that it prints.
 use libc::STDOUT_FILENO;
 

@@ -2,7 +2,7 @@
 use Prim.Native.Nat.{ℕ, zero, suc, ◌+◌, ◌-◌, ◌<◌}
 use native.Mathlib.Omega.{arith}
 use mathlib.Core.Path.{◌≡◌, refl, sym, ap, ◌∙◌, subst}
-use mathlib.Core.Bool.{Bool, true, false, cond, ◌&&◌, ◌||◌, false≢true, or-true, or_false}
+use mathlib.Core.Bool.{Bool, true, false, cond, ◌&&◌, ◌||◌, false≢true, or-true, or-false}
 use mathlib.Core.List.{List, [], ◌∷◌, ◌++◌, map}
 use lib.ListN.{length, take, drop}
 use lib.Dec.{eqb}
@@ -157,19 +157,19 @@ line_wrong any f st n o k l (Spans i) es e = absurd (omega arith)
 line_over : (any : Bool) (f : ℕ) (st : State) (n o : ℕ) (l : List ℕ) (kind : Kind) (es : List Event) → kind ≡ kind_at st o l
     → (fault_of kind ≡ 2 → ⊥) → (fault_of kind ≡ 3 → ⊥) → survey_from any f (events_of st n o l kind ++ es) ≡ survey_from (any || closes kind) f es
 unfolding events_of kind_at span_events read_line survey_from
-line_over any f st n o l Plain es e x y = rw (or_false any)
-line_over any f st n o l Fence es e x y = rw (or_false any)
+line_over any f st n o l Plain es e x y = rw (or-false any)
+line_over any f st n o l Fence es e x y = rw (or-false any)
 line_over any f st n o l (Fault k) es e x y =
     let h : k < 4 = subst LowKind (sym e) (low_kind st.fence (is_open st.region) o l) in
-    passed_over any f n k es x y (λ z. omega arith) ∙ rw (or_false any)
+    passed_over any f n k es x y (λ z. omega arith) ∙ rw (or-false any)
 line_over any f st n o l Closes es e x y = rw (or-true any) (go st.region (kind-closes st.fence (is_open st.region) o l (sym e)).1)
   where
     go : (r : OpenRegion) → is_open r ≡ true → survey_from any f (closed_by n o r ++ es) ≡ survey_from true f es
     go Closed q = absurd (false≢true q)
     go (Open g) q = refl
-line_over any f st n o l (Opens a d peer) es e x y = rw (or_false any)
+line_over any f st n o l (Opens a d peer) es e x y = rw (or-false any)
 line_over any f st n o l (Spans i) es e x y =
-    rw (or_false any)
+    rw (or-false any)
     (spans_over any f n (read_line n (o + i) (drop i l)).spans (read_line n (o + i) (drop i l)).stop es
     (late_read (length (drop i l)) n (o + i) (drop i l)))
 

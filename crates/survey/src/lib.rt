@@ -1,3 +1,5 @@
+#![tactic(auto)]
+
 // One pass over a file as it is handed in: a problem that refuses it, no region, or regions.
 ghost use Rattle.std.specs.Prelude.{◌≡◌, List, ℕ};
 ghost use Rattle.index.specs.Index.{file_of};
@@ -10,7 +12,7 @@ use scan::seek::Seek;
 use scan::state::OpenRegion;
 use scan::{seek, state};
 
-#[derive(Drop)]
+#[derive(Clone, Copy)]
 pub enum Surveyed {
     // 9, 10 or 11, whichever is found first.
     Wrong(Refusal),

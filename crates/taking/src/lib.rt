@@ -1,3 +1,5 @@
+#![tactic(auto)]
+
 // Where a fill stands: at its start, and behind a region whose file is filled and embedded in the host.
 ghost use Rattle.std.specs.Prelude.{◌≡◌, List, ℕ, ◌+◌, length, take, drop};
 ghost use Rattle.text.specs.Bytes.{part};
@@ -19,7 +21,7 @@ use regions::host::HostCursor;
 use survey::Surveyed;
 
 // Where a fill stands: behind a region or at the start, with how long its text is and the files taken in; or it is done.
-#[derive(Drop)]
+#[derive(Clone, Copy)]
 pub enum Stand {
     On {
         c: HostCursor,

@@ -16,24 +16,24 @@ use Rattle·anchor.specs.Anchor.{slug}
 use Rattle·path.specs.Path.{resolve}
 use Rattle·resolve.specs.Resolve.{Resolves}
 use Rattle·resolve.specs.declared.Resolved.the-variants.{From, Long}
-use Rattle·link.specs.Target.{outside, placed, targetOf, rewrite_target}
+use Rattle·link.specs.Target.{outside, placed, targetOf, rewriteTarget}
 use Rattle·link.specs.declared.target.Target.the-variants.{Untouched, Path}
-use Rattle·put.specs.Put.{source_text, Inside, partOf, Able}
+use Rattle·put.specs.Put.{sourceText, Inside, partOf, Able}
 use Rattle·put.specs.declared.Source.{Source}
 use Rattle·put.specs.declared.Room.{Room}
-use Rattle·put.proofs.PutLaws.{able_part, inside-any, source-part}
+use Rattle·put.proofs.PutLaws.{able-part, inside-any, source-part}
 use Rattle·member.specs.Member.{Prepared}
-use Rattle·members.specs.Members.{member_at, nameOf, title_source, prepared_from, prepared_in, AllStand}
+use Rattle·members.specs.Members.{memberAt, nameOf, titleSource, preparedFrom, preparedIn, AllStand}
 use Rattle·members.specs.declared.Member.{Member}
-use Rattle·members.proofs.MembersLaws.{prepared_more, prepared_on}
+use Rattle·members.proofs.MembersLaws.{prepared-more, prepared-on}
 use Rattle·pointer.proofs.PutLaws.{front}
-use Rattle·target·specs.Titles.{title_named, titles_in, Named, FoundMember, TitleIn, inside}
+use Rattle·target·specs.Titles.{titleNamed, titlesIn, Named, FoundMember, TitleIn, inside}
 
 -- one more member at the end
-named-last : (ms : List Prepared) (m : Prepared) (name : List ℕ) → title_named (ms ++ (m ∷ [])) name ≡ cond (equals (m .name) name) (some (m .title)) (title_named ms name)
-unfolding title_named
+named-last : (ms : List Prepared) (m : Prepared) (name : List ℕ) → titleNamed (ms ++ (m ∷ [])) name ≡ cond (equals (m .name) name) (some (m .title)) (titleNamed ms name)
+unfolding titleNamed
 named-last [] m name = refl
-named-last (k ∷ ms) m name = rw (named-last ms m name) (go (equals (m .name) name) (title_named ms name))
+named-last (k ∷ ms) m name = rw (named-last ms m name) (go (equals (m .name) name) (titleNamed ms name))
   where
     go : (b : Bool) (o : Option (List ℕ))
         → _≡_ {A = Option (List ℕ)} (elim (cond b (some (m .title)) o) [ none ↦ cond (equals (k .name) name) (some (k .title)) none | some t ↦ some t ])
@@ -42,21 +42,21 @@ named-last (k ∷ ms) m name = rw (named-last ms m name) (go (equals (m .name) n
     go false o = refl
 
 titles_more : (index contents work set : List ℕ) (n : ℕ) (name : List ℕ)
-    → titles_in index contents work set (n + 1) name ≡ cond (equals (nameOf index (member_at set n)) name) (some (source_text (title_source (member_at set n)) contents work)) (titles_in index contents work set n name)
+    → titlesIn index contents work set (n + 1) name ≡ cond (equals (nameOf index (memberAt set n)) name) (some (sourceText (titleSource (memberAt set n)) contents work)) (titlesIn index contents work set n name)
 titles_more index contents work set n name =
     let z : 0 + n ≡ n = omega arith in
-    ap (λ (ms : List Prepared). title_named ms name) (prepared_more index contents work set 0 n)
-    ∙ named-last (prepared_from index contents work set 0 n) (prepared_in index contents work (member_at set (0 + n))) name
+    ap (λ (ms : List Prepared). titleNamed ms name) (prepared-more index contents work set 0 n)
+    ∙ named-last (preparedFrom index contents work set 0 n) (preparedIn index contents work (memberAt set (0 + n))) name
     ∙ rw z
 
-titles_none : (index contents work set name : List ℕ) → titles_in index contents work set 0 name ≡ none
-unfolding title_named prepared_from
+titles_none : (index contents work set name : List ℕ) → titlesIn index contents work set 0 name ≡ none
+unfolding titleNamed preparedFrom
 titles_none index contents work set name = refl
 
 -- none of the members from k on has the name
 pub record Seeking (index set : List ℕ) (count : ℕ) (name : List ℕ) (k : ℕ) : Type 0 where
   pub within : k ≤ count
-  pub same : (contents work : List ℕ) → titles_in index contents work set count name ≡ titles_in index contents work set k name
+  pub same : (contents work : List ℕ) → titlesIn index contents work set count name ≡ titlesIn index contents work set k name
 
 pub seeking_start : (index set : List ℕ) (count : ℕ) (name : List ℕ) → Seeking index set count name count
 seeking_start index set count name = record { within = omega arith; same = λ c w. refl }
@@ -64,12 +64,12 @@ seeking_start index set count name = record { within = omega arith; same = λ c 
 module _ {index set : List ℕ} {count : ℕ} {name : List ℕ} {k : ℕ} (p : Seeking index set count name k) where
   module _ (some-left : 0 < k) where
     next : (c w : List ℕ)
-        → titles_in index c w set count name
-        ≡ cond (equals (nameOf index (member_at set (k - 1))) name) (some (source_text (title_source (member_at set (k - 1))) c w)) (titles_in index c w set (k - 1) name)
-    next c w = let e : k ≡ k - 1 + 1 = omega arith in p .same c w ∙ ap (λ (n : ℕ). titles_in index c w set n name) e ∙ titles_more index c w set (k - 1) name
+        → titlesIn index c w set count name
+        ≡ cond (equals (nameOf index (memberAt set (k - 1))) name) (some (sourceText (titleSource (memberAt set (k - 1))) c w)) (titlesIn index c w set (k - 1) name)
+    next c w = let e : k ≡ k - 1 + 1 = omega arith in p .same c w ∙ ap (λ (n : ℕ). titlesIn index c w set n name) e ∙ titles_more index c w set (k - 1) name
 
-    module _ {m : Member} (is : m ≡ member_at set (k - 1)) {b : Bool} (same : b ≡ equals (nameOf index m) name) where
-      named : equals (nameOf index (member_at set (k - 1))) name ≡ b
+    module _ {m : Member} (is : m ≡ memberAt set (k - 1)) {b : Bool} (same : b ≡ equals (nameOf index m) name) where
+      named : equals (nameOf index (memberAt set (k - 1))) name ≡ b
       named = ap (λ (x : Member). equals (nameOf index x) name) (sym is) ∙ sym same
 
       pub seeking_found : b ≡ true → FoundMember index set count name (At (k - 1))
@@ -79,7 +79,7 @@ module _ {index set : List ℕ} {count : ℕ} {name : List ℕ} {k : ℕ} (p : S
       seeking_on e = record { within = omega (arith, p .within); same = λ c w. next c w ∙ rw (named, e) }
 
   pub seeking_end : k ≤ 0 → FoundMember index set count name Nothing
-  seeking_end h c w = let e : k ≡ 0 = omega arith in p .same c w ∙ ap (λ (n : ℕ). titles_in index c w set n name) e ∙ titles_none index c w set name
+  seeking_end h c w = let e : k ≡ 0 = omega arith in p .same c w ∙ ap (λ (n : ℕ). titlesIn index c w set n name) e ∙ titles_none index c w set name
 
 -- a text that is no name by its length
 other_length : (p s : List ℕ) → length p < length s → equals p s ≡ false
@@ -90,39 +90,39 @@ module _ {index : List ℕ} {n limit stop : ℕ} {set : List ℕ} {count : ℕ} 
   pub names-lie : Named index set count
   names-lie = record { few = all .few; forward = λ i h. all .stand i h .lies .forward; within = λ i h. all .stand i h .lies .named }
 
-  pub title_in : (k : ℕ) → k < count → TitleIn (member_at set k)
+  pub title_in : (k : ℕ) → k < count → TitleIn (memberAt set k)
   title_in k h = let s = all .stand k h in (s .order, omega (arith, s .text, s .title))
 
-  long-none : (c w name : List ℕ) → 255 < length name → (k : ℕ) → k ≤ count → titles_in index c w set k name ≡ none
+  long-none : (c w name : List ℕ) → 255 < length name → (k : ℕ) → k ≤ count → titlesIn index c w set k name ≡ none
   long-none c w name h zero j = titles_none index c w set name
   long-none c w name h (suc k) j =
-      let m = member_at set k in
+      let m = memberAt set k in
       rw (← add-one k) (titles_more index c w set k name
       ∙ rw (other_length (nameOf index m) name (omega (arith, part-length index (m .name .start) (m .name .end), all .stand k (omega arith) .lies .short))) (long-none c w name h k (omega arith)))
 
   -- a path of more than 255 bytes names no member
-  pub long-path : (c w name : List ℕ) → 255 < length name → titles_in index c w set count name ≡ none
+  pub long-path : (c w name : List ℕ) → 255 < length name → titlesIn index c w set count name ≡ none
   long-path c w name h = long-none c w name h count (omega arith)
 
   -- titles stay what they were while the work buffer is written below the limit
-  pub titles_on : (c v w : List ℕ) → drop limit v ≡ drop limit w → titles_in index c v set count ≡ titles_in index c w set count
-  titles_on c v w q = ap title_named (prepared_on c v w 0 count (omega arith) all q)
+  pub titles_on : (c v w : List ℕ) → drop limit v ≡ drop limit w → titlesIn index c v set count ≡ titlesIn index c w set count
+  titles_on c v w q = ap titleNamed (prepared-on c v w 0 count (omega arith) all q)
 
 pub title_able : {index c w set : List ℕ} {room : Room} {count : ℕ} → AllStand index (length c) (room .limit) (length w) set count → room .at ≤ room .limit → room .limit ≤ length w
-    → (k : ℕ) → k < count → Able (title_source (member_at set k)) room c w
+    → (k : ℕ) → k < count → Able (titleSource (memberAt set k)) room c w
 title_able {set = set} all h f k j =
     let s = all .stand k j in
-    let m = member_at set k in
-    able_part record { inside = s .lies .inside; below = h; fits = f } (m .outline .title .start) (m .outline .title .end) (s .order) (omega (arith, s .text, s .title))
+    let m = memberAt set k in
+    able-part record { inside = s .lies .inside; below = h; fits = f } (m .outline .title .start) (m .outline .title .end) (s .order) (omega (arith, s .text, s .title))
 
 -- what a target becomes, by what it is
 module _ (titles : List ℕ → Option (List ℕ)) (url dir t : List ℕ) where
-  pub target-same : targetOf t ≡ Untouched → rewrite_target titles url dir t ≡ t
-  unfolding rewrite_target
+  pub target-same : targetOf t ≡ Untouched → rewriteTarget titles url dir t ≡ t
+  unfolding rewriteTarget
   target-same e = rw e
 
-  pub target-placed : (e : ℕ) → targetOf t ≡ Path e → rewrite_target titles url dir t ≡ placed url (resolve dir (take e t)) (drop e t) (titles (resolve dir (take e t)))
-  unfolding rewrite_target
+  pub target-placed : (e : ℕ) → targetOf t ≡ Path e → rewriteTarget titles url dir t ≡ placed url (resolve dir (take e t)) (drop e t) (titles (resolve dir (take e t)))
+  unfolding rewriteTarget
   target-placed e q = rw q
 
 -- a path that names a member or not
@@ -136,18 +136,18 @@ module _ (url path fragment : List ℕ) (o : Option (List ℕ)) where
 -- the path of a target, resolved at the end of 256 bytes or longer than they are
 module _ {target : Source} {room : Room} {c w : List ℕ} (able : Able target room c w) (e : ℕ) (within : e ≤ target .end - target .start) {path : Source} (is : path ≡ partOf target 0 e)
     (dir out : List ℕ) (size : length out ≡ 256) where
-  path-is : source_text path c w ≡ take e (source_text target c w)
+  path-is : sourceText path c w ≡ take e (sourceText target c w)
   path-is =
       let k : target .start + e ≤ target .end = omega (arith, able .inside .0) in
-      ap (λ (s : Source). source_text s c w) is ∙ source-part target c w 0 e k ∙ front (source_text target c w) e
+      ap (λ (s : Source). sourceText s c w) is ∙ source-part target c w 0 e k ∙ front (sourceText target c w) e
 
   pub path_able : Inside path 0 (length c) (length w)
-  path_able = rw is (inside-any (partOf target 0 e) (room .limit) (length c) (length w) (able_part able 0 e (omega arith) (omega (arith, able .inside .0)) .inside))
+  path_able = rw is (inside-any (partOf target 0 e) (room .limit) (length c) (length w) (able-part able 0 e (omega arith) (omega (arith, able .inside .0)) .inside))
 
-  pub path-here : (a : ℕ) → Resolves dir (source_text path c w) out (From a) → part a 256 out ≡ resolve dir (take e (source_text target c w))
+  pub path-here : (a : ℕ) → Resolves dir (sourceText path c w) out (From a) → part a 256 out ≡ resolve dir (take e (sourceText target c w))
   path-here a f = ap (λ (n : ℕ). part a n out) (sym size) ∙ rest out a ∙ f .1 ∙ ap (resolve dir) path-is
 
-  pub path-long : Resolves dir (source_text path c w) out Long → 255 < length (resolve dir (take e (source_text target c w)))
+  pub path-long : Resolves dir (sourceText path c w) out Long → 255 < length (resolve dir (take e (sourceText target c w)))
   path-long f = omega (arith, f, ap (λ (x : List ℕ). length (resolve dir x)) path-is)
 
 -- a link to a member, by whether it has a fragment

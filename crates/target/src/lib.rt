@@ -1,11 +1,13 @@
+#![tactic(auto)]
+
 // What a link's target becomes: the anchor of a member's title, a kept fragment, or the path at the repository.
 ghost use Prim.Native.Nat.{_-_, _≤_, _<_};
 ghost use lib.ListN.{length, take, drop};
 ghost use Rattle·path.specs.Path.{resolve};
-ghost use Rattle·link.specs.Target.{placed, rewrite_target};
-ghost use Rattle·put.specs.Put.{source_text, Able, Wrote};
-ghost use Rattle·members.specs.Members.{member_at, title_source, AllStand};
-ghost use Rattle·target·specs.Titles.{titles_in, Named, FoundMember, TitleIn, inside};
+ghost use Rattle·link.specs.Target.{placed, rewriteTarget};
+ghost use Rattle·put.specs.Put.{sourceText, Able, Wrote};
+ghost use Rattle·members.specs.Members.{memberAt, titleSource, AllStand};
+ghost use Rattle·target·specs.Titles.{titlesIn, Named, FoundMember, TitleIn, inside};
 use link::target::Target;
 use put::Put;
 use put::Room;
@@ -44,8 +46,8 @@ fn put_inside(
     room: Room,
     work: &mut [u8],
 ) -> Put
-    requires { ⌜ Able target room (now contents) (now work) × ((e ≤ target .end - target .start) × ((k < 64) × (TitleIn (member_at (now set) k) × Able (title_source (member_at (now set) k)) room (now contents) (now work)))) ⌝ }
-    ensures { λ r. ⌜ Wrote room (inside (drop e (source_text target (now (contents .entry)) (now (work .entry)))) (source_text (title_source (member_at (now (set .entry)) k)) (now (contents .entry)) (now (work .entry)))) (now (work .entry)) (now (work .exit)) r ⌝ }
+    requires { ⌜ Able target room (now contents) (now work) × ((e ≤ target .end - target .start) × ((k < 64) × (TitleIn (memberAt (now set) k) × Able (titleSource (memberAt (now set) k)) room (now contents) (now work)))) ⌝ }
+    ensures { λ r. ⌜ Wrote room (inside (drop e (sourceText target (now (contents .entry)) (now (work .entry)))) (sourceText (titleSource (memberAt (now (set .entry)) k)) (now (contents .entry)) (now (work .entry)))) (now (work .entry)) (now (work .exit)) r ⌝ }
 {
     let n = target.end - target.start;
     if e < n {
@@ -69,7 +71,7 @@ fn put_named(
     work: &mut [u8],
 ) -> Put
     requires { ⌜ Able target room (now contents) (now work) × ((e ≤ target .end - target .start) × AllStand (now index) (length (now contents)) (room .limit) (length (now work)) (now set) count) ⌝ }
-    ensures { λ r. ⌜ Wrote room (placed (now (url .entry)) (now (resolved .entry)) (drop e (source_text target (now (contents .entry)) (now (work .entry)))) (titles_in (now (index .entry)) (now (contents .entry)) (now (work .entry)) (now (set .entry)) count (now (resolved .entry)))) (now (work .entry)) (now (work .exit)) r ⌝ }
+    ensures { λ r. ⌜ Wrote room (placed (now (url .entry)) (now (resolved .entry)) (drop e (sourceText target (now (contents .entry)) (now (work .entry)))) (titlesIn (now (index .entry)) (now (contents .entry)) (now (work .entry)) (now (set .entry)) count (now (resolved .entry)))) (now (work .entry)) (now (work .exit)) r ⌝ }
 {
     match find_member(index, set, count, resolved) {
         Found::At(k) => put_inside(contents, set, k, target, e, room, work),
@@ -91,7 +93,7 @@ fn put_placed(
     work: &mut [u8],
 ) -> Put
     requires { ⌜ Able target room (now contents) (now work) × ((e ≤ target .end - target .start) × AllStand (now index) (length (now contents)) (room .limit) (length (now work)) (now set) count) ⌝ }
-    ensures { λ r. ⌜ Wrote room (placed (now (url .entry)) (resolve (now (dir .entry)) (take e (source_text target (now (contents .entry)) (now (work .entry))))) (drop e (source_text target (now (contents .entry)) (now (work .entry)))) (titles_in (now (index .entry)) (now (contents .entry)) (now (work .entry)) (now (set .entry)) count (resolve (now (dir .entry)) (take e (source_text target (now (contents .entry)) (now (work .entry))))))) (now (work .entry)) (now (work .exit)) r ⌝ }
+    ensures { λ r. ⌜ Wrote room (placed (now (url .entry)) (resolve (now (dir .entry)) (take e (sourceText target (now (contents .entry)) (now (work .entry))))) (drop e (sourceText target (now (contents .entry)) (now (work .entry)))) (titlesIn (now (index .entry)) (now (contents .entry)) (now (work .entry)) (now (set .entry)) count (resolve (now (dir .entry)) (take e (sourceText target (now (contents .entry)) (now (work .entry))))))) (now (work .entry)) (now (work .exit)) r ⌝ }
 {
     let mut resolved = [0u8; 256];
     let path = put::part_of(target, 0, e);
@@ -125,7 +127,7 @@ pub fn put_target(
     work: &mut [u8],
 ) -> Put
     requires { ⌜ Able target room (now contents) (now work) × AllStand (now index) (length (now contents)) (room .limit) (length (now work)) (now set) count ⌝ }
-    ensures { λ r. ⌜ Wrote room (rewrite_target (titles_in (now (index .entry)) (now (contents .entry)) (now (work .entry)) (now (set .entry)) count) (now (url .entry)) (now (dir .entry)) (source_text target (now (contents .entry)) (now (work .entry)))) (now (work .entry)) (now (work .exit)) r ⌝ }
+    ensures { λ r. ⌜ Wrote room (rewriteTarget (titlesIn (now (index .entry)) (now (contents .entry)) (now (work .entry)) (now (set .entry)) count) (now (url .entry)) (now (dir .entry)) (sourceText target (now (contents .entry)) (now (work .entry)))) (now (work .entry)) (now (work .exit)) r ⌝ }
 {
     match sources::target_in(contents, work, target) {
         Target::Untouched => {

@@ -1,3 +1,5 @@
+#![tactic(auto)]
+
 // Texts as bytes: searches, patterns, trimming and lines.
 pub mod ascii;
 pub mod bytes;

@@ -6,7 +6,7 @@ ghost use Rattle.text.specs.Lines.{LF, lines, line_end, line_next, pieces, piece
 use crate::bytes;
 
 // Where a line ends, without its LF and a CR before that, and where the next one starts.
-#[derive(Drop)]
+#[derive(Clone, Copy)]
 pub struct LineEnds {
     pub end: usize,
     pub next: usize,
@@ -51,7 +51,7 @@ pub fn line_count(s: &[u8]) -> usize
 }
 
 // Where the piece between LFs that starts at a place ends, and whether it is the last.
-#[derive(Drop)]
+#[derive(Clone, Copy)]
 pub struct PieceEnd {
     pub end: usize,
     pub last: bool,

@@ -5,7 +5,7 @@ ghost use Rattle.text.specs.Pattern.{starts_with, ends_with, equals as equals_to
 use crate::bytes;
 
 // A place in a text, or none.
-#[derive(Drop)]
+#[derive(Clone, Copy)]
 pub enum Found {
     At(usize),
     Nothing,

@@ -1,3 +1,5 @@
+#![tactic(auto)]
+
 // A sentence for each refusal: what the crew has to mend. A name stands inside some of them.
 ghost use Rattle.std.specs.Prelude.{◌≡◌};
 ghost use Rattle.words.specs.Words.{has_name};

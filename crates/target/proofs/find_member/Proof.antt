@@ -4,7 +4,7 @@ use native.Mathlib.Omega.{arith}
 use mathlib.Core.Path.{ap}
 use borrow.Author.Needs.{needs}
 use Rattle·members.specs.declared.Member.{Member}
-use Rattle·target·proofs.TitleLaws.{Seeking, seeking_start, seeking_found, seeking_on, seeking_end}
+use Rattle·target·proofs.TitleLaws.{Seeking, seeking-start, seeking-found, seeking-on, seeking-end}
 use Rattle·target·proofs.find_member.Statement.{statement}
 use Rattle·target·proofs.find_member.Tie as tie
 
@@ -15,7 +15,7 @@ abbrev μ-loop : tie.MeasureT-loop
 μ-loop index set count name left₀ left = left
 
 loop-holds : tie.Need-loop-holds Inv-loop μ-loop
-loop-holds c = seeking_start (c .before .before .args .index .now) (c .before .before .args .set .now) (c .before .before .args .count) (c .before .before .args .name .now)
+loop-holds c = seeking-start (c .before .before .args .index .now) (c .before .before .args .set .now) (c .before .before .args .count) (c .before .before .args .name .now)
 
 sub-k : tie.Need-sub-k Inv-loop μ-loop
 sub-k c = omega (arith, c .before .loop .inv .within)
@@ -36,7 +36,7 @@ equals-requires : tie.Need-equals-requires Inv-loop μ-loop
 equals-requires c κs = search needs
 
 returns : tie.Need-returns Inv-loop μ-loop
-returns c = seeking_found (c .before .before .before .before .before .before .loop .inv) (omega arith) (c .before .before .before .before .member-at .ensures) (c .before .equals .ensures) (c .if1 .taken)
+returns c = seeking-found (c .before .before .before .before .before .before .loop .inv) (omega arith) (c .before .before .before .before .member-at .ensures) (c .before .equals .ensures) (c .if1 .taken)
 
 sub-left : tie.Need-sub-left Inv-loop μ-loop
 sub-left c = omega arith
@@ -45,10 +45,10 @@ loop-less : tie.Need-loop-less Inv-loop μ-loop
 loop-less c = omega arith
 
 loop-again : tie.Need-loop-again Inv-loop μ-loop
-loop-again c = seeking_on (c .before .before .before .before .before .before .loop .inv) (omega arith) (c .before .before .before .before .member-at .ensures) (c .before .equals .ensures) (c .if1 .left)
+loop-again c = seeking-on (c .before .before .before .before .before .before .loop .inv) (omega arith) (c .before .before .before .before .member-at .ensures) (c .before .equals .ensures) (c .if1 .left)
 
 returns-2 : tie.Need-returns-2 Inv-loop μ-loop
-returns-2 c = seeking_end (c .before .loop .inv) (omega arith)
+returns-2 c = seeking-end (c .before .loop .inv) (omega arith)
 
 pub find-member-spec : {M : Type 1} → statement M
 find-member-spec =

@@ -1,7 +1,7 @@
 -- `target::put_inside` meets its contract. Assumes nothing.
-use Rattle·put.specs.Put.{source_text}
-use Rattle·members.specs.Members.{member_at, title_source}
-use Rattle·pointer.proofs.PutLaws.{fragment_is}
+use Rattle·put.specs.Put.{sourceText}
+use Rattle·members.specs.Members.{memberAt, titleSource}
+use Rattle·pointer.proofs.PutLaws.{fragment-is}
 use Rattle·put.proofs.PutLaws.{source-length}
 use native.Mathlib.Omega.{arith}
 use Rattle·target·proofs.TitleLaws.{inside-some, inside-none}
@@ -20,8 +20,8 @@ same-length c = search needs
 
 returns : tie.Need-returns
 returns c = let a = c .before .before .before .before .before .before .before .before .args in
-    let t = source_text (a .target) (a .contents .now) (a .work .now) in
-    rw (inside-some t (a .e) (source_text (title_source (member_at (a .set .now) (a .k))) (a .contents .now) (a .work .now)) (omega (arith, source-length (c .before .before .before .before .before .before .before .before .pre .0), c .before .before .before .before .if1 .taken)), ← fragment_is (c .before .before .before .before .before .before .before .before .pre .0) (a .e)) (c .before .before .put-part .ensures)
+    let t = sourceText (a .target) (a .contents .now) (a .work .now) in
+    rw (inside-some t (a .e) (sourceText (titleSource (memberAt (a .set .now) (a .k))) (a .contents .now) (a .work .now)) (omega (arith, source-length (c .before .before .before .before .before .before .before .before .pre .0), c .before .before .before .before .if1 .taken)), ← fragment-is (c .before .before .before .before .before .before .before .before .pre .0) (a .e)) (c .before .before .put-part .ensures)
 
 member-at-requires : tie.Need-member-at-requires
 member-at-requires c κs = search needs
@@ -37,8 +37,8 @@ same-length-2 c = search needs
 
 returns-2 : tie.Need-returns-2
 returns-2 c = let a = c .before .before .before .before .before .before .before .before .before .before .args in
-    let t = source_text (a .target) (a .contents .now) (a .work .now) in
-    rw (inside-none t (a .e) (source_text (title_source (member_at (a .set .now) (a .k))) (a .contents .now) (a .work .now)) (omega (arith, source-length (c .before .before .before .before .before .before .before .before .before .before .pre .0), c .before .before .before .before .before .before .if1 .left))) (rw (c .before .before .before .before .title-of .ensures, c .before .before .before .before .before .member-at .ensures) at (c .before .before .put-anchor .ensures))
+    let t = sourceText (a .target) (a .contents .now) (a .work .now) in
+    rw (inside-none t (a .e) (sourceText (titleSource (memberAt (a .set .now) (a .k))) (a .contents .now) (a .work .now)) (omega (arith, source-length (c .before .before .before .before .before .before .before .before .before .before .pre .0), c .before .before .before .before .before .before .if1 .left))) (rw (c .before .before .before .before .title-of .ensures, c .before .before .before .before .before .member-at .ensures) at (c .before .before .put-anchor .ensures))
 
 pub put-inside-spec : {M : Type 1} → statement M
 put-inside-spec =

@@ -6,9 +6,9 @@ use mathlib.Core.List.{List}
 use lib.ListN.{length, take, drop, replicate}
 use Rattle·link.specs.Target.{placed}
 use Rattle·path.specs.Path.{resolve}
-use Rattle·put.specs.Put.{source_text, Wrote}
-use Rattle·target·specs.Titles.{titles_in}
-use Rattle·target·proofs.TitleLaws.{path_able, path-here, path-long, placed-outside, long-path}
+use Rattle·put.specs.Put.{sourceText, Wrote}
+use Rattle·target·specs.Titles.{titlesIn}
+use Rattle·target·proofs.TitleLaws.{path-able, path-here, path-long, placed-outside, long-path}
 use borrow.Author.Needs.{needs}
 use Rattle·target·proofs.put_placed.Statement.{statement}
 use Rattle·target·proofs.put_placed.Tie as tie
@@ -20,7 +20,7 @@ slice-aggregate-resolve-in : tie.Need-slice-aggregate-resolve-in
 slice-aggregate-resolve-in c = search needs
 
 resolve-in-requires : tie.Need-resolve-in-requires
-resolve-in-requires c κs = let a = c .before .before .before .before .before .before .before .before .args in path_able (c .before .before .before .before .before .before .before .before .pre .0) (a .e) (c .before .before .before .before .before .before .before .before .pre .1 .0) (c .before .before .part-of .ensures) (a .dir .now) (replicate 256 0) (omega arith)
+resolve-in-requires c κs = let a = c .before .before .before .before .before .before .before .before .args in path-able (c .before .before .before .before .before .before .before .before .pre .0) (a .e) (c .before .before .before .before .before .before .before .before .pre .1 .0) (c .before .before .part-of .ensures) (a .dir .now) (replicate 256 0) (omega arith)
 
 enum-known-a : tie.Need-enum-known-a
 enum-known-a c = search needs
@@ -50,7 +50,7 @@ returns : tie.Need-returns
 returns c = let a = c .before .before .before .before .before .before .before .before .before .before .before .before .before .before .before .before .before .before .before .args in
     let f = rw (c .before .before .before .before .before .before .before .a .given .1) at (c .before .before .before .before .before .before .before .before .before .before .resolve-in .ensures) in
     let z : length (c .before .before .before .before .before .before .before .before .before .before .resolve-in .last .1 .1 .1 .1 .0) ≡ 256 = omega (arith, c .before .before .before .before .before .before .before .before .before .before .resolve-in .kept) in
-    subst (λ (x : List ℕ). Wrote (a .room) (placed (a .url .now) x (drop (a .e) (source_text (a .target) (a .contents .now) (a .work .now))) ((titles_in (a .index .now) (a .contents .now) (a .work .now) (a .set .now) (a .count)) x)) (a .work .now) (c .before .before .put-named .last .1 .1 .1 .1 .1 .1 .1 .1 .1 .0) (c .before .before .put-named .result))
+    subst (λ (x : List ℕ). Wrote (a .room) (placed (a .url .now) x (drop (a .e) (sourceText (a .target) (a .contents .now) (a .work .now))) ((titlesIn (a .index .now) (a .contents .now) (a .work .now) (a .set .now) (a .count)) x)) (a .work .now) (c .before .before .put-named .last .1 .1 .1 .1 .1 .1 .1 .1 .1 .0) (c .before .before .put-named .result))
     (path-here (c .before .before .before .before .before .before .before .before .before .before .before .before .before .before .before .before .before .before .before .pre .0) (a .e) (c .before .before .before .before .before .before .before .before .before .before .before .before .before .before .before .before .before .before .before .pre .1 .0) (c .before .before .before .before .before .before .before .before .before .before .before .before .before .part-of .ensures) (a .dir .now) (c .before .before .before .before .before .before .before .before .before .before .resolve-in .last .1 .1 .1 .1 .0) z _ f) (c .before .before .put-named .ensures)
 
 same-length-2 : tie.Need-same-length-2
@@ -62,7 +62,7 @@ returns-2 c = let a = c .before .before .before .before .before .before .before 
     let z : length (c .before .before .before .before .before .before .before .resolve-in .last .1 .1 .1 .1 .0) ≡ 256 = omega (arith, c .before .before .before .before .before .before .before .resolve-in .kept) in
     let n = path-long (c .before .before .before .before .before .before .before .before .before .before .before .before .before .before .before .before .pre .0) (a .e) (c .before .before .before .before .before .before .before .before .before .before .before .before .before .before .before .before .pre .1 .0) (c .before .before .before .before .before .before .before .before .before .before .part-of .ensures) (a .dir .now) (c .before .before .before .before .before .before .before .resolve-in .last .1 .1 .1 .1 .0) z f in
     subst (λ (x : List ℕ). Wrote (a .room) x (a .work .now) (c .before .before .put-far .last .1 .1 .1 .1 .1 .1 .0) (c .before .before .put-far .result))
-    (sym (placed-outside (a .url .now) (resolve (a .dir .now) (take (a .e) (source_text (a .target) (a .contents .now) (a .work .now)))) (drop (a .e) (source_text (a .target) (a .contents .now) (a .work .now))) (titles_in (a .index .now) (a .contents .now) (a .work .now) (a .set .now) (a .count) (resolve (a .dir .now) (take (a .e) (source_text (a .target) (a .contents .now) (a .work .now))))) (long-path (c .before .before .before .before .before .before .before .before .before .before .before .before .before .before .before .before .pre .1 .1) (a .contents .now) (a .work .now) (resolve (a .dir .now) (take (a .e) (source_text (a .target) (a .contents .now) (a .work .now)))) n))) (c .before .before .put-far .ensures)
+    (sym (placed-outside (a .url .now) (resolve (a .dir .now) (take (a .e) (sourceText (a .target) (a .contents .now) (a .work .now)))) (drop (a .e) (sourceText (a .target) (a .contents .now) (a .work .now))) (titlesIn (a .index .now) (a .contents .now) (a .work .now) (a .set .now) (a .count) (resolve (a .dir .now) (take (a .e) (sourceText (a .target) (a .contents .now) (a .work .now))))) (long-path (c .before .before .before .before .before .before .before .before .before .before .before .before .before .before .before .before .pre .1 .1) (a .contents .now) (a .work .now) (resolve (a .dir .now) (take (a .e) (sourceText (a .target) (a .contents .now) (a .work .now)))) n))) (c .before .before .put-far .ensures)
 
 pub put-placed-spec : {M : Type 1} → statement M
 put-placed-spec =

@@ -2,9 +2,9 @@
 use mathlib.Core.Path.{subst}
 use mathlib.Core.List.{List}
 use Prim.Native.Nat.{ℕ}
-use Rattle·put.specs.Put.{source_text, Wrote}
-use Rattle·target·specs.Titles.{titles_in}
-use Rattle·pointer.proofs.PutLaws.{fragment_is}
+use Rattle·put.specs.Put.{sourceText, Wrote}
+use Rattle·target·specs.Titles.{titlesIn}
+use Rattle·pointer.proofs.PutLaws.{fragment-is}
 use native.Mathlib.Omega.{arith}
 use mathlib.Core.Path.{sym, _∙_}
 use lib.ListN.{length}
@@ -40,7 +40,7 @@ returns : tie.Need-returns
 returns c = let a = c .before .before .before .before .before .before .before .before .before .before .before .before .before .before .args in
     let p = sym (c .before .before .before .before .before .before .before .target-in .ensures) ∙ c .before .before .before .before .before .enum-told .given .1 in
     subst (λ (x : List ℕ). Wrote (a .room) x (a .work .now) (c .before .before .put-part .last .1 .1 .1 .1 .1 .0) (c .before .before .put-part .result))
-    (fragment_is (c .before .before .before .before .before .before .before .before .before .before .before .before .before .before .pre .0) 0 ∙ sym (target-same (titles_in (a .index .now) (a .contents .now) (a .work .now) (a .set .now) (a .count)) (a .url .now) (a .dir .now) (source_text (a .target) (a .contents .now) (a .work .now)) p)) (c .before .before .put-part .ensures)
+    (fragment-is (c .before .before .before .before .before .before .before .before .before .before .before .before .before .before .pre .0) 0 ∙ sym (target-same (titlesIn (a .index .now) (a .contents .now) (a .work .now) (a .set .now) (a .count)) (a .url .now) (a .dir .now) (sourceText (a .target) (a .contents .now) (a .work .now)) p)) (c .before .before .put-part .ensures)
 
 same-length-2 : tie.Need-same-length-2
 same-length-2 c = search needs
@@ -49,7 +49,7 @@ returns-2 : tie.Need-returns-2
 returns-2 c = let a = c .before .before .before .before .before .before .before .before .before .before .before .before .before .before .args in
     let p = sym (c .before .before .before .before .before .before .before .target-in .ensures) ∙ c .before .before .before .before .before .e .given .1 in
     subst (λ (x : List ℕ). Wrote (a .room) x (a .work .now) (c .before .before .put-placed .last .1 .1 .1 .1 .1 .1 .1 .1 .1 .0) (c .before .before .put-placed .result))
-    (sym (target-placed (titles_in (a .index .now) (a .contents .now) (a .work .now) (a .set .now) (a .count)) (a .url .now) (a .dir .now) (source_text (a .target) (a .contents .now) (a .work .now)) _ p)) (c .before .before .put-placed .ensures)
+    (sym (target-placed (titlesIn (a .index .now) (a .contents .now) (a .work .now) (a .set .now) (a .count)) (a .url .now) (a .dir .now) (sourceText (a .target) (a .contents .now) (a .work .now)) _ p)) (c .before .before .put-placed .ensures)
 
 pub put-target-spec : {M : Type 1} → statement M
 put-target-spec =

@@ -3,7 +3,7 @@ use Prim.Native.Nat.{◌+◌}
 use Rattle.text.specs.Bytes.{part}
 use Rattle.text.specs.Pattern.{equals}
 use mathlib.Core.Path.{◌≡◌, sym, ◌∙◌}
-use mathlib.Core.Bool.{false, ◌&&◌, and_false}
+use mathlib.Core.Bool.{false, ◌&&◌, and-false}
 use mathlib.Core.Logic.{⊎_elim}
 use native.Mathlib.Nat.{add-sub_cancel_left}
 use Rattle.text.specs.Space.{trim, trim_end, trim_start}
@@ -58,7 +58,7 @@ trimmed c = rw (← c.before.before.lead.ensures.0, ← (rw rest at c.kept.ensur
 -- no region is open, or the trimmed line is no closer
 no-closer : (c : tie.Joined2) → (c.before.before.before.before.before.before.before.args.inside && equals CLOSE (trim c.before.before.before.before.before.before.before.args.line.now)) ≡ false
 no-closer c =
-    ⊎_elim (λ w. rw (rw (trimmed c.before.before) at (sym w.2.ensures ∙ w.3.left)) (and_false c.before.before.before.before.before.before.before.args.inside))
+    ⊎_elim (λ w. rw (rw (trimmed c.before.before) at (sym w.2.ensures ∙ w.3.left)) (and-false c.before.before.before.before.before.before.before.args.inside))
     (λ w. rw w.left) c.if2.branch
 
 returns-2 : tie.Need-returns-2

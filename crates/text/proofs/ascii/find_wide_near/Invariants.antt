@@ -1,0 +1,16 @@
+-- `ascii::find_wide_near` meets its contract. The invariant: every byte passed is below 80 hex. Assumes nothing.
+use Prim.Native.Nat.{◌+◌, ◌-◌, ◌≤◌}
+use mathlib.Core.Path.{◌≡◌, refl, ◌∙◌}
+use lib.ListN.{length, drop}
+use native.Mathlib.Omega.{arith}
+use borrow.Author.Tests.{le-leb, lt-leb}
+use Rattle.text.specs.Bytes.{first}
+use Rattle.text.specs.Ascii.{is_wide}
+use Rattle.text.proofs.BytesLaws.{first_hit, first_miss, first-end}
+use Rattle.text.proofs.ascii.find_wide_near.Given as goal
+
+abbrev pub invariant-loop-i : goal.invariant-loop-i
+invariant-loop-i l = (l.i ≤ length l.s) × (l.i + first is_wide (drop l.i l.s) ≡ l.from + first is_wide (drop l.from l.s))
+
+abbrev pub decreases-loop-i : goal.decreases-loop-i
+decreases-loop-i l = length l.s - l.i

@@ -1,0 +1,17 @@
+-- `text::ascii::lower` meets its contract: each return rewrites with the tests that led there. Assumes nothing.
+use borrow.Author.Tests.{le-leb, lt-leb}
+use Rattle.text.specs.Ascii.{lower}
+use borrow.Author.Rules.{rules}
+use Rattle.text.proofs.ascii.lower.Goals as goal
+
+pub returns-then-b-le90 : goal.returns-then-b-le90
+unfolding lower
+returns-then-b-le90 c = simp (le-leb _ _ c.if-b-ge65.true, le-leb _ _ c.if-b-le90.true)
+
+pub returns-else-b-le90 : goal.returns-else-b-le90
+unfolding lower
+returns-else-b-le90 c = simp (le-leb _ _ c.if-b-ge65.true, lt-leb _ _ c.if-b-le90.false)
+
+pub returns-else-b-ge65 : goal.returns-else-b-ge65
+unfolding lower
+returns-else-b-ge65 c = simp (lt-leb _ _ c.if-b-ge65.false)

@@ -1,0 +1,15 @@
+-- `bytes::after_near` meets its contract. The invariant: b stands at no place passed. Assumes nothing.
+use Prim.Native.Nat.{◌≤◌}
+use mathlib.Core.Path.{◌≡◌, refl, ◌∙◌}
+use lib.ListN.{take}
+use native.Mathlib.Omega.{arith}
+use borrow.Author.Tests.{eq-eqb, ne_eqb}
+use Rattle.text.specs.Bytes.{is, after_last}
+use Rattle.text.proofs.BytesLaws.{after_hit, after_miss, after-end}
+use Rattle.text.proofs.bytes.after_near.Given as goal
+
+abbrev pub invariant-loop-e : goal.invariant-loop-e
+invariant-loop-e l = (l.e ≤ l.to) × (after_last (is l.b) (take l.e l.s) ≡ after_last (is l.b) (take l.to l.s))
+
+abbrev pub decreases-loop-e : goal.decreases-loop-e
+decreases-loop-e l = l.e
