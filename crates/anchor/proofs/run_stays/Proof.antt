@@ -23,10 +23,10 @@ word-follows-requires c κs = c.before.before.before.before.before.requires.0
 
 returns-2 : tie.Need-returns-2
 returns-2 c =
-    rw (ne_eqb c.before.before.before.before.before.before.args.from.last 0x5F c.before.before.before.if1.false, sym c.before.before.is_IsWord.ensures ∙ c.before.if2.true) c.word-follows.ensures
+    rw (ne_eqb c.before.before.before.before.before.before.args.from.last 0x5F c.before.before.before.if1.false, sym c.before.before.is_word.ensures ∙ c.before.if2.true) c.word-follows.ensures
 
 returns-3 : tie.Need-returns-3
-returns-3 c = rw (ne_eqb c.before.before.before.before.before.args.from.last 0x5F c.before.before.if1.false, sym c.before.is_IsWord.ensures ∙ c.if2.false)
+returns-3 c = rw (ne_eqb c.before.before.before.before.before.args.from.last 0x5F c.before.before.if1.false, sym c.before.is_word.ensures ∙ c.if2.false)
 
 pub run-stays-spec : {M : Type 1} → statement M
 run-stays-spec = tie.close (tie.spec returns is-word-requires word-follows-requires returns-2 returns-3)

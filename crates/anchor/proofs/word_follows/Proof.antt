@@ -32,7 +32,7 @@ returns c =
     let l = c.before.before.before.before.before.loop in
     let a = c.before.before.before.before.before.before.before.args in
     let p = rw c.before.before.stands.ensures at c.before.if1.true in
-    c.is_IsWord.ensures ∙ (sym (follows_here l.markup a.text.now l.i a.from.end (omega arith) (omega arith) p) ∙ l.invariant.1)
+    c.is_word.ensures ∙ (sym (follows_here l.markup a.text.now l.i a.from.end (omega arith) (omega arith) p) ∙ l.invariant.1)
 
 markup-after-requires : tie.Need-markup-after-requires invariant-loop decreases-loop
 markup-after-requires c κs = search rules
