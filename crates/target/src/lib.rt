@@ -1,25 +1,23 @@
 #![tactic(auto)]
 
 // What a link's target becomes: the anchor of a member's title, a kept fragment, or the path at the repository.
-ghost use Prim.Native.Nat.{_-_, _≤_, _<_};
-ghost use lib.ListN.{length, take, drop};
-ghost use Rattle·path.specs.Path.{resolve};
-ghost use Rattle·link.specs.Target.{placed, rewriteTarget};
-ghost use Rattle·put.specs.Put.{sourceText, Able, Wrote};
-ghost use Rattle·members.specs.Members.{memberAt, titleSource, AllStand};
-ghost use Rattle·target·specs.Titles.{titlesIn, Named, FoundMember, TitleIn, inside};
+ghost use Rattle.std.specs.Prelude.{◌-◌, ◌≤◌, ◌<◌, length, take, drop};
+ghost use Rattle.path.specs.Path.{resolve};
+ghost use Rattle.link.specs.Target.{placed, rewrite_target};
+ghost use Rattle.put.specs.Put.{source_text, Able, Wrote};
+ghost use Rattle.members.specs.Members.{member_at, title_source, AllStand};
+ghost use Rattle.target.specs.Titles.{titles_in, Named, FoundMember, TitleIn, inside};
+
 use link::target::Target;
-use put::Put;
-use put::Room;
-use put::Source;
+use put::{Put, Room, Source};
 use resolve::Resolved;
 use text::pattern;
 use text::pattern::Found;
 
 // The last member of a name.
 fn find_member(index: &[u8], set: &[usize; 704], count: usize, name: &[u8]) -> Found
-    requires { ⌜ Named (now index) (now set) count ⌝ }
-    ensures { λ r. ⌜ FoundMember (now (index .entry)) (now (set .entry)) count (now (name .entry)) r ⌝ }
+    requires { Named index.now set.now count }
+    ensures { FoundMember index.now set.now count name.now result }
 {
     let mut left = count;
     while 0 < left {
@@ -46,8 +44,8 @@ fn put_inside(
     room: Room,
     work: &mut [u8],
 ) -> Put
-    requires { ⌜ Able target room (now contents) (now work) × ((e ≤ target .end - target .start) × ((k < 64) × (TitleIn (memberAt (now set) k) × Able (titleSource (memberAt (now set) k)) room (now contents) (now work)))) ⌝ }
-    ensures { λ r. ⌜ Wrote room (inside (drop e (sourceText target (now (contents .entry)) (now (work .entry)))) (sourceText (titleSource (memberAt (now (set .entry)) k)) (now (contents .entry)) (now (work .entry)))) (now (work .entry)) (now (work .exit)) r ⌝ }
+    requires { Able target room contents.now work.old × ((e ≤ target.end - target.start) × ((k < 64) × (TitleIn (member_at set.now k) × Able (title_source (member_at set.now k)) room contents.now work.old))) }
+    ensures { Wrote room (inside (drop e (source_text target contents.now work.old)) (source_text (title_source (member_at set.now k)) contents.now work.old)) work.old work.new result }
 {
     let n = target.end - target.start;
     if e < n {
@@ -70,8 +68,8 @@ fn put_named(
     room: Room,
     work: &mut [u8],
 ) -> Put
-    requires { ⌜ Able target room (now contents) (now work) × ((e ≤ target .end - target .start) × AllStand (now index) (length (now contents)) (room .limit) (length (now work)) (now set) count) ⌝ }
-    ensures { λ r. ⌜ Wrote room (placed (now (url .entry)) (now (resolved .entry)) (drop e (sourceText target (now (contents .entry)) (now (work .entry)))) (titlesIn (now (index .entry)) (now (contents .entry)) (now (work .entry)) (now (set .entry)) count (now (resolved .entry)))) (now (work .entry)) (now (work .exit)) r ⌝ }
+    requires { Able target room contents.now work.old × ((e ≤ target.end - target.start) × AllStand index.now (length contents.now) room.limit (length work.old) set.now count) }
+    ensures { Wrote room (placed url.now resolved.now (drop e (source_text target contents.now work.old)) (titles_in index.now contents.now work.old set.now count resolved.now)) work.old work.new result }
 {
     match find_member(index, set, count, resolved) {
         Found::At(k) => put_inside(contents, set, k, target, e, room, work),
@@ -92,8 +90,8 @@ fn put_placed(
     room: Room,
     work: &mut [u8],
 ) -> Put
-    requires { ⌜ Able target room (now contents) (now work) × ((e ≤ target .end - target .start) × AllStand (now index) (length (now contents)) (room .limit) (length (now work)) (now set) count) ⌝ }
-    ensures { λ r. ⌜ Wrote room (placed (now (url .entry)) (resolve (now (dir .entry)) (take e (sourceText target (now (contents .entry)) (now (work .entry))))) (drop e (sourceText target (now (contents .entry)) (now (work .entry)))) (titlesIn (now (index .entry)) (now (contents .entry)) (now (work .entry)) (now (set .entry)) count (resolve (now (dir .entry)) (take e (sourceText target (now (contents .entry)) (now (work .entry))))))) (now (work .entry)) (now (work .exit)) r ⌝ }
+    requires { Able target room contents.now work.old × ((e ≤ target.end - target.start) × AllStand index.now (length contents.now) room.limit (length work.old) set.now count) }
+    ensures { Wrote room (placed url.now (resolve dir.now (take e (source_text target contents.now work.old))) (drop e (source_text target contents.now work.old)) (titles_in index.now contents.now work.old set.now count (resolve dir.now (take e (source_text target contents.now work.old))))) work.old work.new result }
 {
     let mut resolved = [0u8; 256];
     let path = put::part_of(target, 0, e);
@@ -126,8 +124,8 @@ pub fn put_target(
     room: Room,
     work: &mut [u8],
 ) -> Put
-    requires { ⌜ Able target room (now contents) (now work) × AllStand (now index) (length (now contents)) (room .limit) (length (now work)) (now set) count ⌝ }
-    ensures { λ r. ⌜ Wrote room (rewriteTarget (titlesIn (now (index .entry)) (now (contents .entry)) (now (work .entry)) (now (set .entry)) count) (now (url .entry)) (now (dir .entry)) (sourceText target (now (contents .entry)) (now (work .entry)))) (now (work .entry)) (now (work .exit)) r ⌝ }
+    requires { Able target room contents.now work.old × AllStand index.now (length contents.now) room.limit (length work.old) set.now count }
+    ensures { Wrote room (rewrite_target (titles_in index.now contents.now work.old set.now count) url.now dir.now (source_text target contents.now work.old)) work.old work.new result }
 {
     match sources::target_in(contents, work, target) {
         Target::Untouched => {

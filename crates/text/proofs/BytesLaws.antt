@@ -5,7 +5,7 @@ use native.Mathlib.Nat.{zero-add, sub-zero, zero-sub, suc-sub-suc, le_of_suc-le-
 use native.Mathlib.Numerals.{add-one, sub-one}
 use native.Mathlib.Omega.{arith}
 use mathlib.Core.Path.{◌≡◌, refl, sym, ap, ◌∙◌}
-use mathlib.Core.Bool.{Bool, true, false, cond, ◌||◌, false≢true, or_assoc, or_false}
+use mathlib.Core.Bool.{Bool, true, false, cond, ◌||◌, false≢true, or_assoc, or-false}
 use mathlib.Core.List.{List, [], ◌∷◌}
 use lib.ListN.{length, take, drop, get_or, drop_of_length-le, length-drop, length-take}
 use lib.Seq.{drop-cons, drop-drop, take_all, take-nil, length-slice}
@@ -40,7 +40,7 @@ module _ (f : ℕ → Bool) (s : List ℕ) (i : ℕ) where
 
   pub any-end : (h : Bool) → length s ≤ i → (h || any f (drop i s)) ≡ h
   unfolding any
-  any-end h p = rw (drop_of_length-le s p) (or_false h)
+  any-end h p = rw (drop_of_length-le s p) (or-false h)
 
   pub first_hit : i < length s → f (get_or s i 0) ≡ true → i + first f (drop i s) ≡ i
   unfolding first

@@ -6,7 +6,7 @@ use native.Mathlib.Nat.{add-zero, not-suc-le-zero}
 use native.Mathlib.Numerals.{add-one, add-two}
 use native.Mathlib.Omega.{arith}
 use mathlib.Core.Path.{◌≡◌, refl, sym, ap, ◌∙◌}
-use mathlib.Core.Bool.{Bool, true, false, cond, ◌&&◌, and_false}
+use mathlib.Core.Bool.{Bool, true, false, cond, ◌&&◌, and-false}
 use mathlib.Core.List.{List, [], ◌∷◌, ◌++◌}
 use lib.ListN.{length, take, drop, get_or, length-drop, length-take, take-append-drop}
 use lib.Seq.{drop-drop, take-length, take-take, length-take-le, get_or-drop}
@@ -21,7 +21,7 @@ use Rattle.text.proofs.SplitLaws.{split-step-at, split-last-at}
 -- a CR before an LF, by the bytes
 breaks-one : (x : ℕ) → breaks (x ∷ []) ≡ false
 unfolding breaks starts_with
-breaks-one x = and_false (eqb x CR)
+breaks-one x = and-false (eqb x CR)
 
 breaks-two : (x y : ℕ) (t : List ℕ) (b d : Bool) → eqb x CR ≡ b → eqb y LF ≡ d → breaks (x ∷ y ∷ t) ≡ (b && (d && true))
 unfolding breaks starts_with
