@@ -1,12 +1,9 @@
 -- `ascii::find_wide` meets its contract. The invariant: every byte passed is below 80 hex. Where a block has a higher one, nothing is
 -- to be shown. Assumes nothing.
-use Prim.Native.Nat.{◌+◌, ◌-◌, ◌≤◌}
-use mathlib.Core.Path.{◌≡◌, sym, ◌∙◌}
-use lib.ListN.{length, drop}
+use Prim.Native.Nat.{◌+◌}
+use mathlib.Core.Path.{sym, ◌∙◌}
 use native.Mathlib.Omega.{arith}
 use native.Mathlib.Nat.{zero-add}
-use borrow.Author.Rules.{rules}
-use Rattle.text.specs.Bytes.{first}
 use Rattle.text.specs.Ascii.{is_wide}
 use Rattle.text.proofs.BytesLaws.{first_block}
 use Rattle.text.proofs.ascii.find_wide.Goals as goal

@@ -1,10 +1,7 @@
 -- `ascii::find_wide_near` meets its contract. The invariant: every byte passed is below 80 hex. Assumes nothing.
-use Prim.Native.Nat.{◌+◌, ◌-◌, ◌≤◌}
-use mathlib.Core.Path.{◌≡◌, refl, ◌∙◌}
-use lib.ListN.{length, drop}
+use mathlib.Core.Path.{refl, ◌∙◌}
 use native.Mathlib.Omega.{arith}
 use borrow.Author.Tests.{le-leb, lt-leb}
-use Rattle.text.specs.Bytes.{first}
 use Rattle.text.specs.Ascii.{is_wide}
 use Rattle.text.proofs.BytesLaws.{first_hit, first_miss, first-end}
 use Rattle.text.proofs.ascii.find_wide_near.Goals as goal

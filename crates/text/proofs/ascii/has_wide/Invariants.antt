@@ -1,12 +1,10 @@
 -- `ascii::has_wide` meets its contract. The invariant: what was seen, or what is left. Assumes nothing.
 use Prim.Native.Nat.{◌-◌, ◌≤◌}
-use mathlib.Core.Path.{◌≡◌, refl, sym, ◌∙◌}
+use mathlib.Core.Path.{◌≡◌}
 use mathlib.Core.Bool.{◌||◌}
 use lib.ListN.{length, drop}
-use native.Mathlib.Omega.{arith}
 use Rattle.text.specs.Bytes.{any}
 use Rattle.text.specs.Ascii.{is_wide}
-use Rattle.text.proofs.BytesLaws.{any_more, any-end}
 use Rattle.text.proofs.ascii.has_wide.Given as goal
 
 abbrev pub invariant-loop-j : goal.invariant-loop-j

@@ -1,7 +1,6 @@
 -- `text::ascii::lower` meets its contract: each return rewrites with the tests that led there. Assumes nothing.
 use borrow.Author.Tests.{le-leb, lt-leb}
 use Rattle.text.specs.Ascii.{lower}
-use borrow.Author.Rules.{rules}
 use Rattle.text.proofs.ascii.lower.Goals as goal
 
 pub returns-then-b-le90 : goal.returns-then-b-le90

@@ -1,13 +1,9 @@
 -- `bytes::after_last` meets its contract. The invariant: b stands at no place passed. Where a block has b, nothing is to be shown.
 -- Assumes nothing.
-use Prim.Native.Nat.{◌-◌, ◌≤◌}
-use mathlib.Core.Path.{◌≡◌, sym, ◌∙◌}
+use Prim.Native.Nat.{◌≤◌}
+use mathlib.Core.Path.{◌≡◌}
 use lib.ListN.{length, take}
-use lib.Seq.{take-length}
-use native.Mathlib.Omega.{arith}
-use borrow.Author.Rules.{rules}
 use Rattle.text.specs.Bytes.{is, after_last}
-use Rattle.text.proofs.BytesLaws.{after_block}
 use Rattle.text.proofs.bytes.after_last.Given as goal
 
 abbrev pub invariant-loop-e : goal.invariant-loop-e

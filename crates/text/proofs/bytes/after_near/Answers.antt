@@ -1,10 +1,8 @@
 -- `bytes::after_near` meets its contract. The invariant: b stands at no place passed. Assumes nothing.
-use Prim.Native.Nat.{◌≤◌}
-use mathlib.Core.Path.{◌≡◌, refl, ◌∙◌}
-use lib.ListN.{take}
+use mathlib.Core.Path.{refl, ◌∙◌}
 use native.Mathlib.Omega.{arith}
 use borrow.Author.Tests.{eq-eqb, ne_eqb}
-use Rattle.text.specs.Bytes.{is, after_last}
+use Rattle.text.specs.Bytes.{is}
 use Rattle.text.proofs.BytesLaws.{after_hit, after_miss, after-end}
 use Rattle.text.proofs.bytes.after_near.Goals as goal
 

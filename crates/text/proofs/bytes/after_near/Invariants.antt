@@ -1,11 +1,8 @@
 -- `bytes::after_near` meets its contract. The invariant: b stands at no place passed. Assumes nothing.
 use Prim.Native.Nat.{◌≤◌}
-use mathlib.Core.Path.{◌≡◌, refl, ◌∙◌}
+use mathlib.Core.Path.{◌≡◌}
 use lib.ListN.{take}
-use native.Mathlib.Omega.{arith}
-use borrow.Author.Tests.{eq-eqb, ne_eqb}
 use Rattle.text.specs.Bytes.{is, after_last}
-use Rattle.text.proofs.BytesLaws.{after_hit, after_miss, after-end}
 use Rattle.text.proofs.bytes.after_near.Given as goal
 
 abbrev pub invariant-loop-e : goal.invariant-loop-e

@@ -1,13 +1,8 @@
 -- `bytes::count_byte` meets its contract. The invariant: what was counted and what is left make the whole. Assumes nothing.
 use Prim.Native.Nat.{◌+◌, ◌-◌, ◌≤◌}
-use mathlib.Core.Path.{◌≡◌, ap}
+use mathlib.Core.Path.{◌≡◌}
 use lib.ListN.{length, drop}
-use lib.Seq.{length-slice}
-use native.Mathlib.Omega.{arith}
-use native.Mathlib.Nat.{zero-add}
-use borrow.Author.Rules.{rules}
-use Rattle.text.specs.Bytes.{is, count, part}
-use Rattle.text.proofs.BytesLaws.{count_block, count_le, rest, rest-length}
+use Rattle.text.specs.Bytes.{is, count}
 use Rattle.text.proofs.bytes.count_byte.Given as goal
 
 abbrev pub invariant-loop-i : goal.invariant-loop-i

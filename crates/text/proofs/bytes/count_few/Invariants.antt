@@ -1,12 +1,8 @@
 -- `bytes::count_few` meets its contract. The invariant: what was counted and what is left make the whole. Assumes nothing.
 use Prim.Native.Nat.{◌+◌, ◌-◌, ◌≤◌}
-use mathlib.Core.Path.{◌≡◌, ◌∙◌}
+use mathlib.Core.Path.{◌≡◌}
 use lib.ListN.{length, drop}
-use native.Mathlib.Omega.{arith}
-use native.Mathlib.Nat.{zero-add}
-use borrow.Author.Tests.{eq-eqb, ne_eqb}
 use Rattle.text.specs.Bytes.{is, count}
-use Rattle.text.proofs.BytesLaws.{count_hit, count_miss, count-end}
 use Rattle.text.proofs.bytes.count_few.Given as goal
 
 abbrev pub invariant-loop-j : goal.invariant-loop-j

@@ -1,11 +1,8 @@
 -- `bytes::find_byte` meets its contract. The invariant: b stands at no place passed. Assumes nothing.
 use Prim.Native.Nat.{◌+◌, ◌-◌, ◌≤◌}
-use mathlib.Core.Path.{◌≡◌, refl, sym, ◌∙◌}
+use mathlib.Core.Path.{◌≡◌}
 use lib.ListN.{length, drop}
-use native.Mathlib.Omega.{arith}
-use borrow.Author.Rules.{rules}
 use Rattle.text.specs.Bytes.{is, first}
-use Rattle.text.proofs.BytesLaws.{first_block, first-within}
 use Rattle.text.proofs.bytes.find_byte.Given as goal
 
 abbrev pub invariant-loop-i : goal.invariant-loop-i

@@ -1,11 +1,8 @@
 -- `bytes::find_here` meets its contract. The invariant: b stands at no place passed. Assumes nothing.
 use Prim.Native.Nat.{◌+◌, ◌-◌}
-use mathlib.Core.Path.{◌≡◌, refl, ◌∙◌}
+use mathlib.Core.Path.{◌≡◌}
 use lib.ListN.{length, drop}
-use native.Mathlib.Omega.{arith}
-use borrow.Author.Tests.{eq-eqb, ne_eqb}
 use Rattle.text.specs.Bytes.{is, first}
-use Rattle.text.proofs.BytesLaws.{first_hit, first_miss}
 use Rattle.text.proofs.bytes.find_here.Given as goal
 
 abbrev pub invariant-loop-i : goal.invariant-loop-i

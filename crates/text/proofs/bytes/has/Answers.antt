@@ -1,10 +1,7 @@
 -- `bytes::has` meets its contract. The invariant: what was seen, or what is left. Assumes nothing.
-use Prim.Native.Nat.{◌-◌, ◌≤◌}
-use mathlib.Core.Path.{◌≡◌, refl, sym, ◌∙◌}
-use mathlib.Core.Bool.{◌||◌}
-use lib.ListN.{length, drop}
+use mathlib.Core.Path.{refl, sym, ◌∙◌}
 use native.Mathlib.Omega.{arith}
-use Rattle.text.specs.Bytes.{is, any}
+use Rattle.text.specs.Bytes.{is}
 use Rattle.text.proofs.BytesLaws.{any_more, any-end}
 use Rattle.text.proofs.bytes.has.Goals as goal
 

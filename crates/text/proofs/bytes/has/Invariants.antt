@@ -1,11 +1,9 @@
 -- `bytes::has` meets its contract. The invariant: what was seen, or what is left. Assumes nothing.
 use Prim.Native.Nat.{◌-◌, ◌≤◌}
-use mathlib.Core.Path.{◌≡◌, refl, sym, ◌∙◌}
+use mathlib.Core.Path.{◌≡◌}
 use mathlib.Core.Bool.{◌||◌}
 use lib.ListN.{length, drop}
-use native.Mathlib.Omega.{arith}
 use Rattle.text.specs.Bytes.{is, any}
-use Rattle.text.proofs.BytesLaws.{any_more, any-end}
 use Rattle.text.proofs.bytes.has.Given as goal
 
 abbrev pub invariant-loop-j : goal.invariant-loop-j

@@ -1,8 +1,6 @@
 -- `text::lines::line` meets its contract: the line by the first LF from its start on. Assumes nothing.
 use mathlib.Core.Path.{◌∙◌}
-use mathlib.Core.Logic.{⊎_elim}
 use native.Mathlib.Omega.{arith}
-use borrow.Author.Rules.{rules}
 use Rattle.text.proofs.LineLaws.{line-at-last, line-at_feed, line-at_return}
 use Rattle.text.proofs.lines.line.Goals as goal
 use Rattle.text.proofs.lines.line.Goals.{then-from-e+else-s-e-eq13, else-from-e}
@@ -18,6 +16,6 @@ returns-then-s-e-eq13 c = let a = c.args in let f = c.find_byte-e in
 pub returns : goal.returns
 returns c = let a = c.args in let f = c.find_byte-e in record {
   end_value = line-at_feed a.s.now a.from f.result (f.ensures.0 ∙ c.requires.1.1) (omega arith)
-    (elim c.if-from-e.branch [ then-from-e+else-s-e-eq13 w ↦ λ z k. w.if-s-e-eq13.false k | else-from-e w ↦ λ z k. absurd (omega arith) ]);
+      (elim c.if-from-e.branch [ then-from-e+else-s-e-eq13 w ↦ λ z k. w.if-s-e-eq13.false k | else-from-e w ↦ λ z k. absurd (omega arith) ]);
   from_le_end = omega arith;
 }

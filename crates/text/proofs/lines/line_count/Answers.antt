@@ -1,6 +1,5 @@
 -- `text::lines::line_count` meets its contract: as many lines as LFs, and one more where the last byte is none. Assumes nothing.
 use native.Mathlib.Omega.{arith}
-use borrow.Author.Rules.{rules}
 use Rattle.text.proofs.LineLaws.{lines-count, lines-closed, lines_open, lines_le}
 use Rattle.text.proofs.lines.line_count.Goals as goal
 

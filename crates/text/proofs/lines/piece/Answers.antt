@@ -1,7 +1,6 @@
 -- `text::lines::piece` meets its contract: the piece up to the first LF from its start on. Assumes nothing.
 use mathlib.Core.Path.{refl}
 use native.Mathlib.Omega.{arith}
-use borrow.Author.Rules.{rules}
 use Rattle.text.proofs.LineLaws.{pieces-at}
 use Rattle.text.proofs.lines.piece.Goals as goal
 

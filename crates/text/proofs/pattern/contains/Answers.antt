@@ -1,6 +1,5 @@
 -- `pattern::contains` meets its contract. Assumes nothing.
 use mathlib.Core.Path.{sym, ap, ◌∙◌}
-use borrow.Author.Rules.{rules}
 use Rattle.text.specs.Pattern.{is_at}
 use Rattle.text.proofs.pattern.contains.Goals as goal
 

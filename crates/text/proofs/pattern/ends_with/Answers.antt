@@ -1,5 +1,4 @@
 -- `pattern::ends_with` meets its contract. Assumes nothing.
-use borrow.Author.Rules.{rules}
 use borrow.Author.Tests.{le-leb, lt-leb}
 use Rattle.text.specs.Pattern.{ends_with}
 use Rattle.text.proofs.BytesLaws.{rest}

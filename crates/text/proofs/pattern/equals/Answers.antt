@@ -1,5 +1,4 @@
 -- `pattern::equals` meets its contract. Assumes nothing.
-use borrow.Author.Rules.{rules}
 use borrow.Author.Tests.{eq-eqb, ne_eqb}
 use Rattle.text.specs.Pattern.{equals}
 use Rattle.text.proofs.pattern.equals.Goals as goal

@@ -1,10 +1,7 @@
 -- `pattern::find` meets its contract. The invariant: p stands at no place passed. Assumes nothing.
-use Prim.Native.Nat.{◌+◌, ◌-◌, ◌≤◌}
-use mathlib.Core.Path.{◌≡◌, sym, ◌∙◌}
-use lib.ListN.{length, drop}
+use Prim.Native.Nat.{◌+◌}
+use mathlib.Core.Path.{sym, ◌∙◌}
 use native.Mathlib.Omega.{arith}
-use borrow.Author.Rules.{rules}
-use Rattle.text.specs.Pattern.{find, later}
 use Rattle.text.proofs.PatternLaws.{starts-end, later-zero, find_hit, found_here, found-later, found_jump, found_none}
 use Rattle.text.proofs.pattern.find.Goals as goal
 

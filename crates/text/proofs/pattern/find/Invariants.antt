@@ -1,11 +1,8 @@
 -- `pattern::find` meets its contract. The invariant: p stands at no place passed. Assumes nothing.
-use Prim.Native.Nat.{◌+◌, ◌-◌, ◌≤◌}
-use mathlib.Core.Path.{◌≡◌, sym, ◌∙◌}
+use Prim.Native.Nat.{◌-◌, ◌≤◌}
+use mathlib.Core.Path.{◌≡◌}
 use lib.ListN.{length, drop}
-use native.Mathlib.Omega.{arith}
-use borrow.Author.Rules.{rules}
 use Rattle.text.specs.Pattern.{find, later}
-use Rattle.text.proofs.PatternLaws.{starts-end, later-zero, find_hit, found_here, found-later, found_jump, found_none}
 use Rattle.text.proofs.pattern.find.Given as goal
 
 abbrev pub invariant-loop-i : goal.invariant-loop-i

@@ -1,10 +1,8 @@
 -- `pattern::starts_with` meets its contract. The invariant: s is long enough, and what is left of p has still to stand at j. Assumes nothing.
 use Prim.Native.Nat.{◌-◌, ◌≤◌}
-use mathlib.Core.Path.{◌≡◌, refl, sym, ◌∙◌}
+use mathlib.Core.Path.{◌≡◌}
 use lib.ListN.{length, drop}
-use borrow.Author.Rules.{rules}
 use Rattle.text.specs.Pattern.{starts_with}
-use Rattle.text.proofs.PatternLaws.{starts_more, starts_differs, starts-short, starts-end}
 use Rattle.text.proofs.pattern.starts_with.Given as goal
 
 abbrev pub invariant-loop-j : goal.invariant-loop-j

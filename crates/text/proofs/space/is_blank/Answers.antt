@@ -1,5 +1,4 @@
 -- `space::is_blank` meets its contract. Assumes nothing.
-use borrow.Author.Rules.{rules}
 use Rattle.text.specs.Space.{is_blank}
 use Rattle.text.proofs.space.is_blank.Goals as goal
 

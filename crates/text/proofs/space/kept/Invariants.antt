@@ -1,14 +1,9 @@
 -- `space::kept` meets its contract. The invariant: the bytes passed are space bytes. Assumes nothing.
 use Prim.Native.Nat.{◌≤◌}
-use mathlib.Core.Path.{◌≡◌, sym, ap, ◌∙◌}
-use mathlib.Core.Bool.{not}
+use mathlib.Core.Path.{◌≡◌}
 use lib.ListN.{length, take}
-use lib.Seq.{take-length}
-use native.Mathlib.Omega.{arith}
-use borrow.Author.Rules.{rules}
 use Rattle.text.specs.Bytes.{after_last}
 use Rattle.text.specs.Space.{is_other, kept}
-use Rattle.text.proofs.BytesLaws.{after_hit, after_miss, after-end}
 use Rattle.text.proofs.space.kept.Given as goal
 
 abbrev pub invariant-loop-e : goal.invariant-loop-e

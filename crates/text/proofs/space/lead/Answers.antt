@@ -1,12 +1,8 @@
 -- `space::lead` meets its contract. The invariant: the bytes passed are space bytes. Assumes nothing.
-use Prim.Native.Nat.{◌+◌, ◌-◌, ◌≤◌}
-use mathlib.Core.Path.{◌≡◌, sym, ap, ◌∙◌}
+use mathlib.Core.Path.{sym, ap, ◌∙◌}
 use mathlib.Core.Bool.{not}
-use lib.ListN.{length, drop}
 use native.Mathlib.Omega.{arith}
 use native.Mathlib.Nat.{zero-add}
-use borrow.Author.Rules.{rules}
-use Rattle.text.specs.Bytes.{first}
 use Rattle.text.specs.Space.{is_other, lead}
 use Rattle.text.proofs.BytesLaws.{first_hit, first_miss, first-end}
 use Rattle.text.proofs.space.lead.Goals as goal

@@ -1,14 +1,9 @@
 -- `space::lead` meets its contract. The invariant: the bytes passed are space bytes. Assumes nothing.
 use Prim.Native.Nat.{◌+◌, ◌-◌, ◌≤◌}
-use mathlib.Core.Path.{◌≡◌, sym, ap, ◌∙◌}
-use mathlib.Core.Bool.{not}
+use mathlib.Core.Path.{◌≡◌}
 use lib.ListN.{length, drop}
-use native.Mathlib.Omega.{arith}
-use native.Mathlib.Nat.{zero-add}
-use borrow.Author.Rules.{rules}
 use Rattle.text.specs.Bytes.{first}
 use Rattle.text.specs.Space.{is_other, lead}
-use Rattle.text.proofs.BytesLaws.{first_hit, first_miss, first-end}
 use Rattle.text.proofs.space.lead.Given as goal
 
 abbrev pub invariant-loop-i : goal.invariant-loop-i
