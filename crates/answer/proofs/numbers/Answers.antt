@@ -1,7 +1,6 @@
 -- `answer::numbers` meets its contract: each arm by the answer that was matched. Assumes nothing.
 use mathlib.Core.Path.{ap, sym}
 use Rattle.answer.specs.Answer.{numbers}
-use borrow.Author.Rules.{rules}
 use Rattle.answer.proofs.numbers.Goals as goal
 
 pub returns-in-Accepted : goal.returns-in-Accepted

@@ -1,6 +1,5 @@
 -- `answer::place_of` meets its contract: each arm by the refusal that was matched. Assumes nothing.
 use mathlib.Core.Path.{sym, ap}
-use borrow.Author.Rules.{rules}
 use Rattle.answer.specs.Answer.{place_of}
 use Rattle.answer.proofs.place_of.Goals as goal
 

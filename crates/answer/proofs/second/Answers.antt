@@ -1,7 +1,6 @@
 -- `answer::second` meets its contract: the last refusal has a second place, and no other has one. Assumes nothing.
 use mathlib.Core.Path.{◌≡◌, refl, sym, ap}
 use Rattle.answer.specs.declared.Place.{Place}
-use borrow.Author.Rules.{rules}
 use Rattle.answer.specs.Answer.{place, second}
 use Rattle.answer.specs.declared.Refusal.{Refusal}
 use Rattle.answer.specs.declared.Refusal.TheVariants.{IndexLine, TooManyRecords, PastContents, NameTwice, WideByte, NameForm, ListForm, Sizes, NestedRegion, FragmentMarker, UnclosedRegion, PeerWithoutHeading, OnChain, Absent, Allowance, HeadingLevel, TextLimit, NoTitle, SharedAnchor}
