@@ -1,7 +1,7 @@
 -- Laws of `specs/Fences.antt`: a line toggles the scan's fence just where it opens one, and its opener is told by the three bytes of its trimmed start.
 -- Assumes nothing.
 use Prim.Native.Nat.{ℕ}
-use mathlib.Core.Path.{◌≡◌, refl, sym}
+use mathlib.Core.Path.{◌≡◌, refl}
 use mathlib.Core.Bool.{Bool, true, false, cond, ◌||◌}
 use mathlib.Core.List.{List, [], ◌∷◌}
 use lib.Dec.{eqb}

@@ -1,6 +1,5 @@
 -- `fence::is_fence` meets its contract: a line toggles the fence just where it has an opener. Assumes nothing.
 use mathlib.Core.Path.{ap, ◌∙◌}
-use borrow.Author.Rules.{rules}
 use Rattle.fence.specs.Fences.{opens}
 use Rattle.fence.proofs.FenceLaws.{fence_opener}
 use Rattle.fence.proofs.is_fence.Goals as goal

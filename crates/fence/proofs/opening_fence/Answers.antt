@@ -3,7 +3,6 @@ use mathlib.Core.Path.{sym, ◌∙◌}
 use Rattle.text.specs.Space.{trim_start}
 use Rattle.text.proofs.BytesLaws.{rest}
 use Rattle.fence.specs.Fences.{opener}
-use borrow.Author.Rules.{rules}
 use Rattle.fence.proofs.opening_fence.Goals as goal
 
 pub returns-then-starts_with : goal.returns-then-starts_with
