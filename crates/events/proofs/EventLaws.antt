@@ -14,8 +14,8 @@ use Rattle.scan.specs.declared.event.Event.TheVariants.{OfProblem}
 use Rattle.scan.specs.declared.seek.Seek.TheVariants.{LineAt, TextEnd}
 use Rattle.scan.specs.declared.state.State.{State}
 use Rattle.scan.proofs.ScanLaws.{sought_line, sought_end}
-use Rattle.log.specs.Sink.{Sink, put, put_all}
-use Rattle.log.proofs.SinkLaws.{all_append}
+use Rattle.event_log.specs.Sink.{Sink, put, put_all}
+use Rattle.event_log.proofs.SinkLaws.{all_append}
 
 -- one turn of the writing scan: x is what the whole scan writes
 module _ (s : List ℕ) (a n k b e x : ℕ) (st : State) (t u w : Sink) (i : put_all (scan_from st (n + 1) (lines_from a (drop a s))) t ≡ w) where

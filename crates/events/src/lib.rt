@@ -4,10 +4,10 @@
 ghost use Rattle.std.specs.Prelude.{◌≡◌, ◌+◌, ◌≤◌, length, drop};
 ghost use Rattle.text.specs.Lines.{lines_from};
 ghost use Rattle.scan.specs.Scan.{last_of, unclosed as unclosed_by, scan as scan_of};
-ghost use Rattle.log.specs.Sink.{sink, put_all};
+ghost use Rattle.event_log.specs.Sink.{sink, put_all};
 
-use log::sink;
-use log::sink::To;
+use event_log::sink;
+use event_log::sink::To;
 use scan::event::Event;
 use scan::seek::Seek;
 use scan::state::{OpenRegion, State};

@@ -10,8 +10,8 @@ use Rattle.marker.specs.declared.span.Stop.TheVariants.{AtProblem, AtSpanEnd}
 use Rattle.scan.specs.Scan.{Reading, read_line, span_events, span_of}
 use Rattle.scan.specs.declared.event.Event.TheVariants.{OfSpan, OfProblem}
 use Rattle.scan.proofs.ScanLaws.{left_at, left_span}
-use Rattle.log.specs.Sink.{Sink, put, put_all}
-use Rattle.log.proofs.SinkLaws.{all_append}
+use Rattle.event_log.specs.Sink.{Sink, put, put_all}
+use Rattle.event_log.proofs.SinkLaws.{all_append}
 
 -- what the reading of a line gives, after what is put for its spans
 module _ (l : List ℕ) (n o : ℕ) (t u : Sink) (h : u ≡ put_all (map OfSpan (read_line n o l).spans) t) where

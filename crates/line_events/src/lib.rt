@@ -3,10 +3,10 @@
 // What one line of a text gives, put into a sink.
 ghost use Rattle.std.specs.Prelude.{◌≡◌, map, ◌+◌, ◌<◌, ◌^◌, length};
 ghost use Rattle.scan.specs.Scan.{read_line, span_events, closed_by, kind_at, events_of};
-ghost use Rattle.log.specs.Sink.{sink, put_all};
+ghost use Rattle.event_log.specs.Sink.{sink, put_all};
 
-use log::sink;
-use log::sink::To;
+use event_log::sink;
+use event_log::sink::To;
 use marker::line::Kind;
 use marker::span;
 use marker::span::{Mark, Stop};

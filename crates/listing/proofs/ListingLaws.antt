@@ -12,12 +12,12 @@ use Rattle.buffer.proofs.BufferLaws.{sets_append}
 use Rattle.scan.specs.Scan.{scan}
 use Rattle.rows.specs.Row.{span_rows, region_rows, problem_rows}
 use Rattle.rows.specs.Sheet.{TOP, add, Sheet, sheet, write, written, behind}
-use Rattle.log.specs.Log.{unpacked}
-use Rattle.log.specs.Sink.{Sink, sink, put_all}
+use Rattle.event_log.specs.Log.{unpacked}
+use Rattle.event_log.specs.Sink.{Sink, sink, put_all}
 use Rattle.rows.specs.declared.Places.{Places}
-use Rattle.log.specs.declared.sink.To.{To}
+use Rattle.event_log.specs.declared.sink.To.{To}
 use Rattle.rows.proofs.SheetLaws.{places, moved, rows}
-use Rattle.log.proofs.SinkLaws.{all_sheet, all_rows, all_within}
+use Rattle.event_log.proofs.SinkLaws.{all_sheet, all_rows, all_within}
 use Rattle.listing.specs.Listing.{listing}
 
 pub listing-length : (s : List ℕ)

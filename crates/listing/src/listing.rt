@@ -3,13 +3,13 @@
 ghost use Rattle.std.specs.Prelude.{◌≡◌, map, ◌≤◌, length, take};
 ghost use Rattle.text.specs.Ascii.{wide_line};
 ghost use Rattle.rows.specs.Sheet.{sheet, written, behind as behind_of};
-ghost use Rattle.log.specs.Log.{unpacked};
+ghost use Rattle.event_log.specs.Log.{unpacked};
 ghost use Rattle.listing.specs.ScanCall.{answer_of, output_of};
 
 use answer::{Answer, Place, Refusal};
-use log::sink::To;
-use log::word;
-use log::word::Kept;
+use event_log::sink::To;
+use event_log::word;
+use event_log::word::Kept;
 use rows::Places;
 
 // The places of rows of these lengths, one kind directly behind the other.

@@ -1,6 +1,6 @@
 -- `events::put_scan` meets its contract. The invariant: what a scan from place a on finds, put after what was put so far, is the whole. Assumes nothing.
 use Rattle.events.proofs.EventLaws.{turned, ended}
-use Rattle.log.specs.Sink.{sink, put_all}
+use Rattle.event_log.specs.Sink.{sink, put_all}
 use Rattle.scan.specs.Scan.{scan, scan_from}
 use Rattle.text.proofs.BytesLaws.{part_length}
 use Rattle.text.specs.Lines.{lines_from}

@@ -1,5 +1,5 @@
 -- `events::put_unclosed` meets its contract: each arm by the region that was matched. Assumes nothing.
-use Rattle.log.specs.Sink.{put_all}
+use Rattle.event_log.specs.Sink.{put_all}
 use borrow.Author.Rules.{rules}
 use Rattle.events.proofs.put_unclosed.Statement.{statement}
 use Rattle.events.proofs.put_unclosed.Tie as tie

@@ -1,5 +1,5 @@
 -- `line_events::put_closed` meets its contract: each arm by the region that was matched. Assumes nothing.
-use Rattle.log.specs.Sink.{put_all}
+use Rattle.event_log.specs.Sink.{put_all}
 use mathlib.Core.Path.{◌∙◌}
 use borrow.Author.Rules.{rules}
 use Rattle.line_events.proofs.put_closed.Statement.{statement}

@@ -1,5 +1,5 @@
 -- `line_events::put_line` meets its contract: each arm by the kind that was matched. Assumes nothing.
-use Rattle.log.specs.Sink.{put_all}
+use Rattle.event_log.specs.Sink.{put_all}
 use Rattle.scan.proofs.ScanLaws.{kind-within}
 use Rattle.scan.specs.Scan.{events_of}
 use Rattle.text.proofs.BytesLaws.{rest, rest-length}

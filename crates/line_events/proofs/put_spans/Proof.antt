@@ -7,7 +7,7 @@ use native.Mathlib.Omega.{arith}
 use borrow.Author.Rules.{rules}
 use Rattle.text.proofs.BytesLaws.{rest-length}
 use Rattle.scan.specs.Scan.{Reading, read_line}
-use Rattle.log.specs.Sink.{sink, put_all}
+use Rattle.event_log.specs.Sink.{sink, put_all}
 use Rattle.scan.specs.declared.event.Event.TheVariants.{OfSpan}
 use Rattle.scan.proofs.ScanLaws.{left_at, left-start, left_problem, left_end, span_within, span_stop}
 use Rattle.line_events.proofs.SpanLaws.{span_put}

@@ -1,6 +1,6 @@
 -- `listing::listing::put_logged` meets its contract. The invariant: the rows of the words from i on, written after those before, are the whole. Assumes nothing.
 use Rattle.listing.proofs.ListingLaws.{logged_more, logged_end}
-use Rattle.log.specs.Log.{unpacked}
+use Rattle.event_log.specs.Log.{unpacked}
 use Rattle.rows.specs.Sheet.{Sheet, sheet, written}
 use borrow.Author.Rules.{rules}
 use native.Mathlib.Omega.{arith}
