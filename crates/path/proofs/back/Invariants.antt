@@ -1,0 +1,13 @@
+-- `path::back` meets its contract. The invariant: the parts passed leave the parts before them as many to drop as are counted. Assumes nothing.
+use Prim.Native.Nat.{ℕ, ◌+◌, ◌≤◌}
+use mathlib.Core.Path.{◌≡◌}
+use mathlib.Core.List.{List}
+use Rattle.path.specs.Backward.{tail, tail_of, parts_left}
+use Rattle.path.proofs.back.Given as goal
+
+abbrev pub invariant-loop-left : goal.invariant-loop-left
+invariant-loop-left l =
+    (l.left ≤ l.left-2) × ((l.up + l.left ≤ l.up-2 + l.left-2) × ((t : List ℕ) → tail_of (parts_left l.left-2 l.s) (tail l.up-2 t) ≡ tail_of (parts_left l.left l.s) (tail l.up t)))
+
+abbrev pub decreases-loop-left : goal.decreases-loop-left
+decreases-loop-left l = l.left
