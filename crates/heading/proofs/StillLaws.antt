@@ -16,7 +16,7 @@ use Rattle.text.proofs.BytesLaws.{or_left, or_right}
 use Rattle.text.proofs.FirstLaws.{blank_trimmed, blank_find, blank_begins, begins_trimmed, begins-starts}
 use Rattle.fence.specs.Fences.{opener, opens}
 use Rattle.heading.specs.Walk.{hashes, heading_of, closes, opens_comment, written_kind, comment_after, outside_kind, outside_after, step_kind, step_after, kinds_from, states_after, still_kind}
-use Rattle.heading.specs.Level.{shallower, shallowest_of, deeper, deepest_of}
+use Rattle.heading.specs.Level.{shallower, shallowest_of, deeper}
 use Rattle.heading.specs.declared.level.TopLevel.{TopLevel}
 use Rattle.fence.specs.declared.Fence.{Fence}
 use Rattle.fence.specs.declared.Fence.TheVariants.{Outside, Ticks, Tildes}
