@@ -16,6 +16,7 @@ total_append f (a ∷ k) l = let h = total_append f k l in omega arith
 
 pub total_zero : {A : Type 0} (f : A → ℕ) (l : List A) → total f l ≡ 0 → (a : A) → Memᴰ a l → f a ≡ 0
 unfolding total
+total_zero f [] h a m = elim m [ ]
 total_zero f (b ∷ l) h a (Memᴰ.head e) = rw e (omega arith)
 total_zero f (b ∷ l) h a (Memᴰ.tail m) = total_zero f l (omega arith) a m
 
@@ -58,6 +59,7 @@ total_le f g (a ∷ l) h = let x = h a in let y = total_le f g l h in omega arit
 
 pub le_total : {A : Type 0} (f : A → ℕ) (l : List A) (a : A) → Memᴰ a l → f a ≤ total f l
 unfolding total
+le_total f [] a m = elim m [ ]
 le_total f (b ∷ l) a (Memᴰ.head e) = rw e (omega arith)
 le_total f (b ∷ l) a (Memᴰ.tail m) = let h = le_total f l a m in omega arith
 
