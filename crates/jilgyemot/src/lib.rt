@@ -1,11 +1,10 @@
 #![tactic(auto)]
 
-// The C interface of Jilgyemot, and nothing else.
+// The calls of Jilgyemot, as C has them: the answer as six numbers. jilgyemot_c exports them.
 ghost use Rattle.book.specs.Promises.{ScanCall, FillCall, AssembleCall, BookCall};
 
 // The marker scan of a text: its listing in the output, its answer as six numbers.
-#[unsafe(no_mangle)]
-pub extern "C" fn jilgyemot_scan(text: &[u8], out: &mut [u8], answer: &mut [u64; 6])
+pub fn jilgyemot_scan(text: &[u8], out: &mut [u8], answer: &mut [u64; 6])
     ensures { ScanCall text.now out.old answer.new out.new }
 {
     let a = listing::scan(text, out);
@@ -13,8 +12,7 @@ pub extern "C" fn jilgyemot_scan(text: &[u8], out: &mut [u8], answer: &mut [u64;
 }
 
 // A fill of a host: its text in the output, its answer as six numbers.
-#[unsafe(no_mangle)]
-pub extern "C" fn jilgyemot_fill(
+pub fn jilgyemot_fill(
     index: &[u8],
     contents: &[u8],
     name: &[u8],
@@ -41,8 +39,7 @@ pub extern "C" fn jilgyemot_fill(
 }
 
 // An assembly of the members of a list: its text in the output, its answer as six numbers.
-#[unsafe(no_mangle)]
-pub extern "C" fn jilgyemot_assemble(
+pub fn jilgyemot_assemble(
     index: &[u8],
     contents: &[u8],
     list: &[u8],
@@ -59,8 +56,7 @@ pub extern "C" fn jilgyemot_assemble(
 }
 
 // A book of the members of a list, each filled, and all joined: its text in the output, its answer as six numbers.
-#[unsafe(no_mangle)]
-pub extern "C" fn jilgyemot_book(
+pub fn jilgyemot_book(
     index: &[u8],
     contents: &[u8],
     list: &[u8],
