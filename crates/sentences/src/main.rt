@@ -1,23 +1,23 @@
 #![tactic(auto)]
 
 // Prints the sentence of each refusal, a line each: its number, a tab and the sentence, with {} where a name stands.
-use libc::STDOUT_FILENO;
+use std::io;
+use std::io::Write;
 
-fn print_sentence(number: u64) {
-    io::print_decimal(STDOUT_FILENO, number);
-    io::write_all(STDOUT_FILENO, b"\t");
-    words::say_first(STDOUT_FILENO, number);
+fn print_sentence(to: &mut impl Write, number: u64) -> io::Result<()> {
+    write!(to, "{number}\t")?;
+    words::say_first(to, number)?;
     if words::has_name(number) {
-        io::write_all(STDOUT_FILENO, b"{}");
+        to.write_all(b"{}")?;
     }
-    words::say_last(STDOUT_FILENO, number);
-    io::write_all(STDOUT_FILENO, b"\n");
+    words::say_last(to, number)?;
+    to.write_all(b"\n")
 }
 
-fn main() {
-    let mut number = 1;
-    while number <= 19 {
-        print_sentence(number);
-        number += 1;
+fn main(rt: HostRuntime) -> io::Result<()> {
+    let mut out = io::writer(&rt);
+    for number in 1..=19 {
+        print_sentence(&mut out, number)?;
     }
+    Ok(())
 }
