@@ -1,0 +1,62 @@
+-- `scan::seek::next_line` meets its contract: the lines up to the last LF before the place that `skip_blocks` gives are passed, and
+-- the line after it is the answer; where that place is the length, all lines are passed.
+-- Assumes nothing.
+use Prim.Native.Nat.{ℕ, ◌+◌}
+use mathlib.Core.Path.{ap}
+use native.Mathlib.Omega.{arith}
+use Rattle.text.specs.Bytes.{is}
+use Rattle.text.specs.Lines.{LF}
+use Rattle.text.proofs.BytesLaws.{part_length, last_block}
+use Rattle.scan.proofs.SkipLaws.{passed_all, passed-some}
+use Rattle.scan.proofs.seek.next_line.Goals as goal
+
+pub skip_blocks-p-requires : goal.skip_blocks-p-requires
+skip_blocks-p-requires c = omega arith
+
+pub returns-then-p-s : goal.returns-then-p-s
+returns-then-p-s c = let a = c.args in let k = c.skip_blocks-p in
+    passed_all a.s.now a.a k.result c.if-p-s.true k.ensures.1.1
+
+pub slice_bounds-after_last-count : goal.slice_bounds-after_last-count
+slice_bounds-after_last-count c = omega arith
+
+pub slice_bounds-after_last-start : goal.slice_bounds-after_last-start
+slice_bounds-after_last-start c = omega arith
+
+pub slice_bounds-after_last-end : goal.slice_bounds-after_last-end
+slice_bounds-after_last-end c = omega arith
+
+pub overflow_add-b : goal.overflow_add-b
+overflow_add-b c = omega (arith, part_length c.args.s.now c.args.a c.skip_blocks-p.result)
+
+pub line-l-requires : goal.line-l-requires
+line-l-requires c = let a = c.args in let k = c.skip_blocks-p in
+    let m = part_length a.s.now a.a k.result in
+    (omega arith, (k.ensures.1.0, last_block (is LF) a.s.now a.a k.result _ k.ensures.0 k.ensures.1.0 (ap (λ (r : ℕ). a.a + r) c.after_last.ensures.0)))
+
+pub slice_bounds-count_byte-count : goal.slice_bounds-count_byte-count
+slice_bounds-count_byte-count c = omega arith
+
+pub slice_bounds-count_byte-start : goal.slice_bounds-count_byte-start
+slice_bounds-count_byte-start c = omega arith
+
+pub slice_bounds-count_byte-end : goal.slice_bounds-count_byte-end
+slice_bounds-count_byte-end c = omega arith
+
+pub overflow_add-result : goal.overflow_add-result
+overflow_add-result c = omega (arith, part_length c.args.s.now c.args.a (c.args.a + c.after_last.result))
+
+pub overflow_add-result-2 : goal.overflow_add-result-2
+overflow_add-result-2 c = omega (arith, part_length c.args.s.now c.args.a (c.args.a + c.after_last.result))
+
+pub returns : goal.returns
+returns c =
+    let s = c.args.s.now in
+    let a = c.args.a in
+    let p = c.skip_blocks-p.result in
+    let b = a + c.after_last.result in
+    let l = c.line-l in (
+      passed-some s a c.args.n p b c.count_byte.result l.result.end l.result.next c.skip_blocks-p.ensures.0 c.skip_blocks-p.ensures.1.1
+          (ap (λ (r : ℕ). a + r) c.after_last.ensures.0) c.count_byte.ensures.0 (omega (arith, part_length s a p)) l.ensures.end_value.0 l.ensures.end_value.1,
+      omega (arith, part_length s a b),
+    )
