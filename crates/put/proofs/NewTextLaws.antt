@@ -6,7 +6,6 @@ use mathlib.Core.Bool.{Bool}
 use mathlib.Core.List.{List, [], ◌∷◌, ◌++◌}
 use lib.IntN.{ℤ, pos, ◌+ℤ◌}
 use lib.ListN.{length}
-use Rattle.text.specs.Bytes.{part}
 use Rattle.text.specs.Pattern.{starts_with}
 use Rattle.fence.specs.declared.Fence.{Fence}
 use Rattle.heading.specs.Level.{moved_to, heading_line}

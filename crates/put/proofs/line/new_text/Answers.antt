@@ -1,0 +1,33 @@
+-- `put::line::new_text` meets its contract. Assumes nothing.
+use Prim.Native.Nat.{ℕ}
+use mathlib.Core.Path.{◌≡◌, refl, sym, ◌∙◌}
+use native.Mathlib.Omega.{arith}
+use lib.IntN.{ℤ}
+use Rattle.heading.specs.declared.walk.LineKind.{LineKind}
+use Rattle.heading.specs.declared.walk.LineKind.TheVariants.{Quoted, Heading, Other}
+use Rattle.heading.proofs.LevelLaws.{shift_kept}
+use Rattle.put.specs.NewText.{new_text_of}
+use Rattle.put.proofs.line.new_text.Goals as goal
+
+no-heading : (z : ℤ) (a e : ℕ) (k : LineKind) → ((n p q : ℕ) → k ≡ Heading n p q → ⊥) → new_text_of z a e k ≡ record { level = 0; start = a; end = e }
+no-heading z a e Quoted h = refl
+no-heading z a e (Heading n p q) h = absurd (h n p q refl)
+no-heading z a e Other h = refl
+
+pub returns-in_default : goal.returns-in_default
+returns-in_default c = let s = c.args in c.same_text.ensures ∙ sym (no-heading s.shift s.a s.e s.kind c.in_default.not-Heading)
+
+pub shifted-requires : goal.shifted-requires
+shifted-requires c = let s = c in (omega (arith, rw c.in-Heading.is at s.requires.0), rw (shift_kept s.args.shift s.requires.1) s.requires.1)
+
+pub overflow_add-result : goal.overflow_add-result
+overflow_add-result c = omega (arith, rw c.in-Heading.is at c.requires.0)
+
+pub overflow_add-result-in-To : goal.overflow_add-result-in-To
+overflow_add-result-in-To c = omega (arith, rw c.in-Heading.is at c.requires.0)
+
+pub returns-in-To : goal.returns-in-To
+returns-in-To c = let s = c in rw (c.in-Heading.is, ← rw (shift_kept s.args.shift s.requires.1, c.in-To.is) at c.shifted.ensures)
+
+pub returns-in-Past : goal.returns-in-Past
+returns-in-Past c = let s = c in rw (c.in-Heading.is, ← rw (shift_kept s.args.shift s.requires.1, c.in-Past.is) at c.shifted.ensures) c.same_text-in-Past.ensures
