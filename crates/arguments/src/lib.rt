@@ -6,6 +6,7 @@ ghost use Rattle.arguments.specs.Arguments.{Read};
 
 use buffer::decimal;
 use buffer::decimal::Number;
+use std::env::{Env, FillError};
 use text::pattern;
 
 // The most files taken in, where no other number is given.
@@ -41,9 +42,21 @@ enum Word {
     Unknown,
 }
 
-fn word_at(i: usize) -> Word {
+// How many arguments there are, the program's name among them.
+fn argument_count(env: &impl Env) -> usize {
+    let mut first = [0u8; 1];
+    for i in 0..usize::MAX {
+        if let Err(FillError::NotPresent) = env.arg(i, &mut first) {
+            return i;
+        }
+    }
+    usize::MAX
+}
+
+// One that is longer than the buffer has its first bytes there, so that a long option is seen to be one.
+fn word_at(env: &impl Env, i: usize) -> Word {
     let mut word = [0u8; 16];
-    let n = os::arg(i, &mut word);
+    let n = env.arg(i, &mut word).unwrap_or(0);
     if pattern::equals(&word[..n], b"-n") {
         return Word::Allowance;
     }
@@ -57,9 +70,9 @@ fn word_at(i: usize) -> Word {
 }
 
 // The allowance that an argument says: a 32-bit number.
-fn allowance_at(i: usize) -> Number {
+fn allowance_at(env: &impl Env, i: usize) -> Number {
     let mut word = [0u8; 10];
-    let n = os::arg(i, &mut word);
+    let n = env.arg(i, &mut word).unwrap_or(0);
     if n == 0 {
         return Number::NoNumber;
     }
@@ -73,12 +86,12 @@ fn allowance_at(i: usize) -> Number {
 }
 
 // The call that the URL is this argument of.
-fn call_at(url: usize, allowance: usize, book: usize) -> Arguments
+fn call_at(env: &impl Env, url: usize, allowance: usize, book: usize) -> Arguments
     requires { url ≤ 5 }
     ensures { Read result }
 {
-    let count = os::arg_count();
-    let Word::Operand = word_at(url) else {
+    let count = argument_count(env);
+    let Word::Operand = word_at(env, url) else {
         return Arguments::Usage;
     };
     if count < url + 2 {
@@ -97,16 +110,16 @@ fn call_at(url: usize, allowance: usize, book: usize) -> Arguments
 }
 
 // Reads the arguments: at most two options, and then the URL.
-pub fn read() -> Arguments
+pub fn read(env: &impl Env) -> Arguments
     ensures { Read result }
 {
     let mut url = 1;
     let mut allowance = ALLOWANCE;
     let mut book = 0;
     while url < 4 {
-        match word_at(url) {
+        match word_at(env, url) {
             Word::Allowance => {
-                let Number::Is(n) = allowance_at(url + 1) else {
+                let Number::Is(n) = allowance_at(env, url + 1) else {
                     return Arguments::Usage;
                 };
                 allowance = n;
@@ -119,5 +132,5 @@ pub fn read() -> Arguments
         }
         url += 2;
     }
-    call_at(url, allowance, book)
+    call_at(env, url, allowance, book)
 }
