@@ -1,0 +1,5 @@
+-- `line::fields` meets its contract: each return rewrites with the numbers. Assumes nothing.
+use Rattle.index.proofs.line.fields.Goals as goal
+
+pub returns : goal.returns
+returns c = rw (c.in-Is.is, c.in-Is-size.is)
