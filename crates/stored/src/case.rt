@@ -1,11 +1,12 @@
 // A stored case of a call with a walk: index, contents and two more texts, the limits, and the sizes of output and work.
-ghost use Rattle.std.specs.Prelude.{◌≡◌, ◌≤◌, length};
+ghost use Rattle.std.specs.Prelude.{◌≡◌, ◌≤◌, length, IfOk};
 ghost use Rattle.stored.specs.Case.{InOrder, Small, SmallCase};
 
 use crate::header::Header;
 use crate::{header, print};
 use answer::Answer;
-use libc::{STDIN_FILENO, STDOUT_FILENO};
+use std::io;
+use std::io::{Read, Write};
 
 // The four texts together.
 const MOST_GIVEN: usize = 16_384;
@@ -40,11 +41,11 @@ pub enum NextCase {
     Nothing,
 }
 
-fn ill_formed() -> NextCase
-    ensures { SmallCase result }
+fn ill_formed(to: &mut impl Write) -> io::Result<NextCase>
+    ensures { IfOk result SmallCase }
 {
-    crate::print_ill_formed();
-    NextCase::Nothing
+    crate::print_ill_formed(to)?;
+    Ok(NextCase::Nothing)
 }
 
 // Zeros for what is handed in. The `ensures` gives only the length, which lending a part of it needs.
@@ -55,29 +56,29 @@ pub fn given_buffer() -> [u8; 16384]
 }
 
 // Reads what is handed in, and answers whether all of it was there.
-fn read_given(given: &mut [u8]) -> bool {
-    let n = io::read_full(STDIN_FILENO, given);
-    if n < given.len() {
-        crate::print_ill_formed();
-        return false;
+fn read_given(from: &mut impl Read, to: &mut impl Write, given: &mut [u8]) -> io::Result<bool> {
+    let filled = crate::is_filled(from, given)?;
+    if !filled {
+        crate::print_ill_formed(to)?;
     }
-    true
+    Ok(filled)
 }
 
 // Prints the six numbers of an answer, and its text and LF where there is one.
-pub fn print_numbers(numbers: [u64; 6], out: &[u8]) {
-    print::numbers(numbers);
+pub fn print_numbers(to: &mut impl Write, numbers: [u64; 6], out: &[u8]) -> io::Result<()> {
+    print::numbers(to, numbers)?;
     if numbers[0] == 0 {
         let length = numbers[1] as usize;
         if length <= out.len() {
-            io::write_all(STDOUT_FILENO, &out[..length]);
-            io::write_all(STDOUT_FILENO, b"\n");
+            to.write_all(&out[..length])?;
+            to.write_all(b"\n")?;
         }
     }
+    Ok(())
 }
 
-pub fn print_answer(a: Answer, out: &[u8]) {
-    print_numbers(answer::numbers(a), out);
+pub fn print_answer(to: &mut impl Write, a: Answer, out: &[u8]) -> io::Result<()> {
+    print_numbers(to, answer::numbers(a), out)
 }
 
 // Past all memory.
@@ -117,45 +118,44 @@ fn starts_of(index: usize, contents: usize, third: usize, fourth: usize) -> Star
 }
 
 // A case, if there is memory for it.
-fn small_case(at: Starts, limits: Limits) -> NextCase
+fn small_case(to: &mut impl Write, at: Starts, limits: Limits) -> io::Result<NextCase>
     requires { InOrder at }
-    ensures { SmallCase result }
+    ensures { IfOk result SmallCase }
 {
     if MOST_GIVEN < at.end {
-        return ill_formed();
+        return ill_formed(to);
     }
     if MOST_ROOM < limits.out {
-        return ill_formed();
+        return ill_formed(to);
     }
     if MOST_ROOM < limits.work {
-        return ill_formed();
+        return ill_formed(to);
     }
     if MOST_ALLOWANCE < limits.allowance {
-        return ill_formed();
+        return ill_formed(to);
     }
-    NextCase::Handed { at, limits }
+    Ok(NextCase::Handed { at, limits })
 }
 
 // Reads four headers.
-fn next_case() -> NextCase
-    ensures { SmallCase result }
+fn next_case(from: &mut impl Read, to: &mut impl Write) -> io::Result<NextCase>
+    ensures { IfOk result SmallCase }
 {
     let mut bytes = [0u8; 56];
-    let n = io::read_full(STDIN_FILENO, &mut bytes);
-    if n < 56 {
-        return NextCase::Nothing;
+    if !crate::is_filled(from, &mut bytes)? {
+        return Ok(NextCase::Nothing);
     }
     let Header::Numbers(index, contents) = header::parse(&bytes[..14]) else {
-        return ill_formed();
+        return ill_formed(to);
     };
     let Header::Numbers(third, fourth) = header::parse(&bytes[14..28]) else {
-        return ill_formed();
+        return ill_formed(to);
     };
     let Header::Numbers(limit, allowance) = header::parse(&bytes[28..42]) else {
-        return ill_formed();
+        return ill_formed(to);
     };
     let Header::Numbers(out, work) = header::parse(&bytes[42..]) else {
-        return ill_formed();
+        return ill_formed(to);
     };
     let limits = Limits {
         limit,
@@ -163,20 +163,24 @@ fn next_case() -> NextCase
         out,
         work,
     };
-    small_case(starts_of(index, contents, third, fourth), limits)
+    small_case(to, starts_of(index, contents, third, fourth), limits)
 }
 
 // Reads a case: its headers, and what is handed in, to the front of a buffer.
-pub fn read_case(given: &mut [u8]) -> NextCase
+pub fn read_case(
+    from: &mut impl Read,
+    to: &mut impl Write,
+    given: &mut [u8],
+) -> io::Result<NextCase>
     requires { 16384 ≤ length given.old }
-    ensures { SmallCase result }
+    ensures { IfOk result SmallCase }
 {
-    let NextCase::Handed { at, limits } = next_case() else {
-        return NextCase::Nothing;
+    let NextCase::Handed { at, limits } = next_case(from, to)? else {
+        return Ok(NextCase::Nothing);
     };
     let end = at.end;
-    if !read_given(&mut given[..end]) {
-        return NextCase::Nothing;
+    if !read_given(from, to, &mut given[..end])? {
+        return Ok(NextCase::Nothing);
     }
-    NextCase::Handed { at, limits }
+    Ok(NextCase::Handed { at, limits })
 }

@@ -23,6 +23,7 @@ fn numbers_of(first: Number, second: Number) -> Header
     Header::Numbers(a, b)
 }
 
+#[tactic(auto, unfolding(crate::specs::Header::header_of))]
 pub fn parse(s: &[u8]) -> Header
     requires { length s.now ≡ 14 }
     ensures { result ≡ header_of s.now }

@@ -1,16 +1,17 @@
-// Numbers on standard output, tabs between them.
-use libc::STDOUT_FILENO;
+// Numbers, tabs between them.
+use std::io;
+use std::io::Write;
 
-pub fn tabbed(number: u64) {
-    io::write_all(STDOUT_FILENO, b"\t");
-    io::print_decimal(STDOUT_FILENO, number);
+pub fn tabbed(to: &mut impl Write, number: u64) -> io::Result<()> {
+    write!(to, "\t{number}")
 }
 
 // A row of six numbers.
-pub fn numbers(numbers: [u64; 6]) {
-    io::print_decimal(STDOUT_FILENO, numbers[0]);
+pub fn numbers(to: &mut impl Write, numbers: [u64; 6]) -> io::Result<()> {
+    let [first, ..] = numbers;
+    write!(to, "{first}")?;
     for i in 1..6 {
-        tabbed(numbers[i]);
+        tabbed(to, numbers[i])?;
     }
-    io::write_all(STDOUT_FILENO, b"\n");
+    to.write_all(b"\n")
 }
