@@ -1,0 +1,13 @@
+-- `regions::own::rest_top` meets its contract. The invariant: the walk over what is left ends as that from the first cursor on. Assumes nothing.
+use Prim.Native.Nat.{◌-◌}
+use mathlib.Core.Path.{◌≡◌}
+use lib.ListN.{length}
+use Rattle.regions.specs.Hosts.{LineFrom, blanked_at}
+use Rattle.regions.specs.Own.{own_after}
+use Rattle.regions.proofs.own.rest_top.Given as goal
+
+abbrev pub invariant-loop-d : goal.invariant-loop-d
+invariant-loop-d l = LineFrom l.s l.c × (own_after l.own (blanked_at l.s l.c) ≡ own_after l.initial.own (blanked_at l.s l.initial.c))
+
+abbrev pub decreases-loop-d : goal.decreases-loop-d
+decreases-loop-d l = length l.s - l.c.at
