@@ -1,0 +1,32 @@
+-- `pointer::put_far` meets its contract. Assumes nothing.
+use native.Mathlib.Omega.{arith}
+use Rattle.path.specs.Path.{resolve}
+use lib.ListN.{take}
+use Rattle.put.specs.Put.{source_text}
+use Rattle.put.proofs.PutLaws.{able_part}
+use Rattle.pointer.proofs.PutLaws.{root_over, root_able, path-same, path_over, path_able, fragment_put}
+use Rattle.pointer.proofs.put_far.Goals as goal
+
+pub returns-in_default : goal.returns-in_default
+returns-in_default c = let a = c.args in
+    root_over c.requires.0 a.url.now (resolve a.dir.now (take a.e (source_text a.target a.contents.now a.work.now))) a.e (rw c.in_default.is at c.put_root.ensures)
+
+pub put_path-requires : goal.put_path-requires
+put_path-requires c = let a = c.args in
+    let o = root_able c.requires.0 a.url.now (resolve a.dir.now (take a.e (source_text a.target a.contents.now a.work.now))) a.e _ _ (rw c.in-To.is at c.put_root.ensures) in
+    rw c.part_of-path.ensures (able_part o 0 a.e (omega arith) (omega (arith, c.requires.0.inside.0)))
+
+pub returns-in_default-put_path : goal.returns-in_default-put_path
+returns-in_default-put_path c = let a = c.args in
+    let s = path-same c.requires.0 a.url.now (resolve a.dir.now (take a.e (source_text a.target a.contents.now a.work.now))) a.e _ _ (rw c.in-To.is at c.put_root.ensures) (omega (arith, c.requires.0.inside.0)) in
+    path_over c.requires.0 a.url.now (resolve a.dir.now (take a.e (source_text a.target a.contents.now a.work.now))) a.e _ _ (rw c.in-To.is at c.put_root.ensures) (rw (c.in_default-put_path.is, c.part_of-path.ensures, s) at c.put_path.ensures)
+
+pub put_part-requires : goal.put_part-requires
+put_part-requires c = let a = c.args in
+    let s = path-same c.requires.0 a.url.now (resolve a.dir.now (take a.e (source_text a.target a.contents.now a.work.now))) a.e _ _ (rw c.in-To.is at c.put_root.ensures) (omega (arith, c.requires.0.inside.0)) in
+    (path_able c.requires.0 a.url.now (resolve a.dir.now (take a.e (source_text a.target a.contents.now a.work.now))) a.e _ _ (rw c.in-To.is at c.put_root.ensures) _ _ (rw (c.in-To-put_path.is, c.part_of-path.ensures, s) at c.put_path.ensures), (c.requires.1, omega (arith, c.requires.0.inside.0)))
+
+pub returns : goal.returns
+returns c = let a = c.args in
+    let s = path-same c.requires.0 a.url.now (resolve a.dir.now (take a.e (source_text a.target a.contents.now a.work.now))) a.e _ _ (rw c.in-To.is at c.put_root.ensures) (omega (arith, c.requires.0.inside.0, c.requires.1)) in
+    fragment_put c.requires.0 a.url.now (resolve a.dir.now (take a.e (source_text a.target a.contents.now a.work.now))) a.e _ _ (rw c.in-To.is at c.put_root.ensures) _ _ (rw (c.in-To-put_path.is, c.part_of-path.ensures, s) at c.put_path.ensures) _ c.put_part.result c.put_part.ensures
