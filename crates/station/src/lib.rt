@@ -4,6 +4,7 @@
 ghost use Rattle.std.specs.Prelude.{◌≡◌, ◌≤◌};
 ghost use Rattle.station.specs.Station.{largest_limit};
 
+pub mod failed;
 pub mod line;
 pub mod record;
 pub mod shown;
