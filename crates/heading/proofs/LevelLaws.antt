@@ -91,6 +91,13 @@ pub mid : (z : ℤ) → lt_z z (pos 1) ≡ false → lt_z (pos 6) z ≡ false �
 mid (pos n) g h = simp (le-leb 1 n (omega (arith, ltb-false n 1 g)), le-leb n 6 (omega (arith, ltb-false 6 n h)))
 mid (negsuc n) g h = absurd (clash g)
 
+-- the same of the machine's sum, which the tests and the returns of `shifted` speak of
+pub high_sum : (l : ℕ) (s : ℤ) → l ≤ 7 → mag s ≤ 7 → lt_z (to_z w32 (of_z w32 (to_z w32 l +ℤ to_z w32 (of_z w32 s)))) (pos 1) ≡ false → lt_z (pos 6) (to_z w32 (of_z w32 (to_z w32 l +ℤ to_z w32 (of_z w32 s)))) ≡ true → Past ≡ moved_to (pos l +ℤ s)
+high_sum l s h k g t = high (pos l +ℤ s) (rw (moved l s h k) at g) (rw (moved l s h k) at t)
+
+pub mid_sum : (l : ℕ) (s : ℤ) → l ≤ 7 → mag s ≤ 7 → lt_z (to_z w32 (of_z w32 (to_z w32 l +ℤ to_z w32 (of_z w32 s)))) (pos 1) ≡ false → lt_z (pos 6) (to_z w32 (of_z w32 (to_z w32 l +ℤ to_z w32 (of_z w32 s)))) ≡ false → To (nat_abs (to_z w32 (of_z w32 (to_z w32 l +ℤ to_z w32 (of_z w32 s))))) ≡ moved_to (pos l +ℤ s)
+mid_sum l s h k g t = rw (moved l s h k) (mid (pos l +ℤ s) (rw (moved l s h k) at g) (rw (moved l s h k) at t))
+
 pub not_negative : (z : ℤ) → lt_z z (pos 1) ≡ false → T (non_neg z)
 not_negative (pos n) g = tt
 not_negative (negsuc n) g = absurd (clash g)

@@ -86,6 +86,7 @@ pub fn shift_to(target: usize, found: TopLevel) -> i32
 }
 
 // The level with the shift added, where that is 1 to 6.
+#[tactic(auto, using(crate::proofs::LevelLaws::high_sum, crate::proofs::LevelLaws::mid_sum))]
 pub fn shifted(level: usize, shift: i32) -> Moved
     requires { (level ≤ 7) × (mag shift ≤ 7) }
     ensures { result ≡ moved_to (pos level +ℤ shift) }
