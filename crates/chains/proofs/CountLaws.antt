@@ -1,12 +1,12 @@
 -- The number of chains is one number. Assumes nothing.
-use Prim.Native.Nat.{ℕ, zero, suc, ◌+◌, ◌≤◌, ◌<◌}
+use Prim.Native.Nat.{ℕ, suc, ◌+◌, ◌≤◌, ◌<◌}
 use native.Mathlib.Omega.{arith}
-use mathlib.Core.Path.{◌≡◌, refl, sym, ◌∙◌, ap}
+use mathlib.Core.Path.{◌≡◌, refl, sym, ◌∙◌}
 use mathlib.Core.Bool.{Bool, true, false, cond}
 use mathlib.Core.List.{List, [], ◌∷◌}
 use lib.ListN.{length}
 use Rattle.index.specs.Index.{File}
-use Rattle.chains.specs.Chains.{same, times_in, longer_at, once_if, CountsChains}
+use Rattle.chains.specs.Chains.{same, times_in, CountsChains}
 use Rattle.chains.proofs.Paths.{same_self, same_equal, pick_n}
 
 times_cons : (p q : List ℕ) (l : List (List ℕ)) → times_in p (q ∷ l) ≡ pick_n (same p q) 1 + times_in p l

@@ -2,7 +2,7 @@
 use Prim.Native.Nat.{ℕ, zero, suc, ◌+◌, ◌-◌}
 use native.Mathlib.Omega.{arith}
 use mathlib.Core.Path.{◌≡◌, refl}
-use mathlib.Core.Bool.{Bool, true, false, cond, ◌&&◌}
+use mathlib.Core.Bool.{Bool, true, false, cond}
 use mathlib.Core.List.{List, [], ◌∷◌, ◌++◌}
 use mathlib.Core.Option.{Option, none, some}
 use lib.ListN.{length, get_or, set}
@@ -11,7 +11,7 @@ use lib.IntN.{ℤ, pos, ◌+ℤ◌}
 use Rattle.answer.specs.Answer.{place}
 use Rattle.answer.specs.declared.Place.{Place}
 use Rattle.answer.specs.declared.Refusal.{Refusal}
-use Rattle.answer.specs.declared.Refusal.TheVariants.{NestedRegion, FragmentMarker, UnclosedRegion, PeerWithoutHeading, OnChain, Absent, HeadingLevel}
+use Rattle.answer.specs.declared.Refusal.TheVariants.{NestedRegion, FragmentMarker, UnclosedRegion, OnChain, HeadingLevel}
 use Rattle.text.specs.Pattern.{equals}
 use Rattle.text.specs.declared.pattern.Found.{Found}
 use Rattle.text.specs.declared.pattern.Found.TheVariants.{At, Nothing}
@@ -19,7 +19,7 @@ use Rattle.scan.specs.Scan.{scan, regions_of}
 use Rattle.scan.specs.declared.event.Event.{Event}
 use Rattle.scan.specs.declared.event.Event.TheVariants.{OfSpan, OfRegion, OfProblem}
 use Rattle.scan.specs.declared.event.Region.{Region}
-use Rattle.heading.specs.Level.{moved_to, shallowest_of}
+use Rattle.heading.specs.Level.{moved_to}
 use Rattle.heading.specs.declared.level.Moved.{Moved}
 use Rattle.heading.specs.declared.level.Moved.TheVariants.{To, Past}
 use Rattle.heading.specs.declared.level.TopLevel.{TopLevel}
@@ -27,10 +27,10 @@ use Rattle.heading.specs.declared.level.TopLevel.TheVariants.{Level, NoHeading}
 use Rattle.heading.specs.declared.walk.LineKind.{LineKind}
 use Rattle.heading.specs.declared.walk.LineKind.TheVariants.{Quoted, Heading, Other}
 use Rattle.index.specs.Index.{File, find_file}
-use Rattle.walk.specs.Parts.{Part, part_faults, unless, if_made}
+use Rattle.walk.specs.Parts.{part_faults, unless, if_made}
 use Rattle.walk.proofs.PartLaws.{made_by}
 use Rattle.walk.proofs.FaultLaws.{is_fault, all_faults, all_append}
-use Rattle.regions.specs.Regions.{HostRegion, Regions, refusal_of, problems_of, peer_faults, above, own_kinds, regions_from, host_regions, scanned_by, Scanned, problem, noRegion, regions, scanned, behind, region}
+use Rattle.regions.specs.Regions.{HostRegion, Regions, refusal_of, problems_of, peer_faults, above, regions_from, host_regions, scanned_by, scanned, behind, region}
 use Rattle.shift.specs.Shift.{past, past_line, past_from}
 use Rattle.embedding.specs.Embed.{embed_told, embed}
 use Rattle.chains.specs.Chains.{Chain, plain, Rest, Next, stop, on, file_at, next_found, next, branch, through, found, grow, free, chain, no_marks, made, faults_rest, faults, region_of, onward, leads, when, chain_at}

@@ -10,7 +10,7 @@ use lib.Dec.{eqb}
 use Rattle.answer.specs.Answer.{place}
 use Rattle.answer.specs.declared.Place.{Place}
 use Rattle.answer.specs.declared.Refusal.{Refusal}
-use Rattle.answer.specs.declared.Refusal.TheVariants.{NestedRegion, FragmentMarker, UnclosedRegion, PeerWithoutHeading, OnChain}
+use Rattle.answer.specs.declared.Refusal.TheVariants.{NestedRegion, FragmentMarker, UnclosedRegion, OnChain}
 use Rattle.text.specs.Bytes.{part}
 use Rattle.text.specs.Lines.{pieces}
 use Rattle.text.specs.Pattern.{equals}
@@ -26,9 +26,9 @@ use Rattle.heading.specs.declared.level.TopLevel.TheVariants.{Level, NoHeading}
 use Rattle.heading.specs.declared.walk.LineKind.{LineKind}
 use Rattle.index.specs.Index.{File, file_of, find_file}
 use Rattle.walk.specs.Parts.{part_made, unless, and_then}
-use Rattle.regions.specs.Regions.{HostRegion, Regions, refusal_of, problems_of, peer_faults, above, target_level, own_kinds, regions_from, host_regions, scanned_by, scanned, behind, region}
+use Rattle.regions.specs.Regions.{HostRegion, refusal_of, problems_of, peer_faults, above, target_level, own_kinds, regions_from, host_regions, scanned_by, scanned}
 use Rattle.embedding.specs.Embed.{embed}
-use Rattle.chains.specs.Chains.{Chain, plain, Rest, into, Next, stop, on, file_at, next_found, next, branch, through, found, grow, headed, embedded, made, made_rest}
+use Rattle.chains.specs.Chains.{Chain, plain, Rest, into, stop, on, file_at, next_found, next, branch, through, found, grow, headed, embedded, made, made_rest}
 
 -- one of two lists is empty where the other is
 abbrev Alike : List Refusal → List Refusal → Type 0

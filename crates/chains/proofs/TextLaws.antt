@@ -15,9 +15,9 @@ use Rattle.walk.specs.Steps.{Judged, given, refused, judge}
 use Rattle.walk.proofs.StepsLaws.{judge_then}
 use Rattle.embedding.specs.Embed.{embed}
 use Rattle.chains.specs.Chains.{Chain, wrong, plain, host, Rest, last, shut, into, headed, text_of}
-use Rattle.walk.specs.Outcome.{text, noRegion, outcome}
+use Rattle.walk.specs.Outcome.{text, outcome}
 use Rattle.chains.specs.Fill.{walk, walk_rest, filled}
-use Rattle.chains.proofs.FillLaws.{or_fault, fitting, judge_after, judge_shut, judge_into, judge-last}
+use Rattle.chains.proofs.FillLaws.{or_fault, judge_after, judge_shut, judge_into, judge-last}
 
 clash : {t : List ℕ} {n : ℕ} {x : Refusal} → refused x ≡ given t n → ⊥
 clash e = let z : ◌≡◌ {A = ℕ} 0 1 = cc in omega arith

@@ -1,6 +1,6 @@
 -- Document 01, "Records": chains, and what lies on them. No allowance, no limit and no walk.
 -- "a chain starts at a list line and goes on through each region that a scan of its last file finds, to a file of S not yet on it; what lies on a chain is reached."
-use Rattle.std.specs.Prelude.{ℕ, zero, suc, ◌+◌, Bool, true, false, cond, ◌&&◌, List, [], ◌∷◌, ◌++◌, map, ◌≡◌, length, get_or, set, replicate, eqb, ltb}
+use Rattle.std.specs.Prelude.{ℕ, zero, suc, Bool, true, false, cond, ◌&&◌, List, [], ◌∷◌, ◌++◌, map, ◌≡◌, length, get_or, set, replicate, eqb, ltb}
 use Rattle.std.proofs.Math.Option.{Option, none, some}
 use Rattle.answer.specs.declared.Place.{Place}
 use Rattle.answer.specs.Answer.{place}
