@@ -13,6 +13,7 @@ pub mod shown;
 const MOST: usize = 1_048_576;
 
 // The largest text limit that a work buffer of a size allows for so many notes and list lines.
+#[tactic(auto, unfolding(crate::specs::Station::largest_limit))]
 pub fn largest_limit(work: usize, notes: usize, lines: usize) -> usize
     requires { (notes ≤ 64) × (lines ≤ 65536) }
     ensures { result ≡ largest_limit work notes lines }
