@@ -1,0 +1,19 @@
+-- `events::put_scan` meets its contract. The invariant: what a scan from place a on finds, put after what was put so far, is the whole. Assumes nothing.
+use Rattle.event_log.specs.Sink.{sink, put_all}
+use Rattle.scan.specs.Scan.{scan, scan_from}
+use Rattle.text.specs.Lines.{lines_from}
+use lib.ListN.{length, drop}
+use mathlib.Core.Path.{◌≡◌}
+use Prim.Native.Nat.{◌+◌, ◌-◌, ◌≤◌}
+use Rattle.events.proofs.put_scan.Given as goal
+
+abbrev pub invariant-loop-number : goal.invariant-loop-number
+invariant-loop-number l =
+    (l.a ≤ length l.s)
+    × ((l.n ≤ l.a)
+    × ((length l.log ≡ length l.initial.log)
+    × ((length l.out ≡ length l.initial.out)
+    × (put_all (scan_from l.st (l.n + 1) (lines_from l.a (drop l.a l.s))) (sink l.to l.log l.out) ≡ put_all (scan l.s) (sink l.initial.to l.initial.log l.initial.out)))))
+
+abbrev pub decreases-loop-number : goal.decreases-loop-number
+decreases-loop-number l = length l.s - l.a
