@@ -1,5 +1,5 @@
 -- The members of an assembly, by what is known of each. Nothing here is document 01's: functions promise it, and the laws of `proofs/` tie it to the members.
-use Rattle.std.specs.Prelude.{ℕ, zero, suc, ◌+◌, ◌*◌, ◌-◌, ◌≤◌, ◌<◌, ◌≡◌, Bool, cond, List, [], ◌∷◌, eqb, length, get_or}
+use Rattle.std.specs.Prelude.{ℕ, zero, suc, ◌+◌, ◌*◌, ◌-◌, ◌≤◌, ◌<◌, ◌≡◌, List, [], ◌∷◌, eqb, length, get_or}
 use Rattle.text.specs.Bytes.{part, bit}
 use Rattle.heading.specs.declared.level.TopLevel.{TopLevel}
 use Rattle.heading.specs.declared.level.TopLevel.TheVariants.{Level, NoHeading}
@@ -9,7 +9,6 @@ use Rattle.put.specs.declared.Source.{Source}
 use Rattle.member.specs.Member.{Prepared}
 use Rattle.member.specs.Lines.{kept_lines}
 use Rattle.outline.specs.Outline.{IsOutline}
-use Rattle.outline.specs.declared.Outline.{Outline}
 use Rattle.members.specs.declared.Member.{Member}
 
 -- a level as a number, 0 for none
