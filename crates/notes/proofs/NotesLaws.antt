@@ -3,19 +3,17 @@ use Prim.Native.Nat.{ℕ, ◌≤◌}
 use mathlib.Core.List.{List}
 use native.Mathlib.Omega.{arith}
 use lib.ListN.{length}
-use Rattle.buffer.specs.Decimal.{decimal}
 use Rattle.buffer.proofs.DecimalLaws.{decimal_le}
 use Rattle.station.specs.Station.{record_line}
 use Rattle.station.proofs.StationLaws.{record_length}
 use Rattle.notes.specs.Notes.{Moved}
 use Rattle.notes.specs.declared.Turn.{Turn}
-use Rattle.notes.specs.declared.Turn.TheVariants.{More, End, Error, Full}
+use Rattle.notes.specs.declared.Turn.TheVariants.{More, End, Full}
 
 -- where there is no room, nothing is read
 pub moved_none : (room : ℕ) (t : Turn) → Moved 0 t → Moved room t
 moved_none room (More n) h = absurd (omega arith)
 moved_none room End h = tt
-moved_none room Error h = tt
 moved_none room Full h = tt
 
 pub record_room : (name : List ℕ) (start size : ℕ) → length name ≤ 255 → length (record_line name start size) ≤ 298

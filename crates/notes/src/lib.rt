@@ -1,11 +1,14 @@
 #![tactic(auto)]
 
 // Reads what arguments name into buffers, and makes the index of the notes. What fails is said on standard error.
-ghost use Rattle.std.specs.Prelude.{◌+◌, ◌≤◌, length};
+ghost use Rattle.std.specs.Prelude.{◌+◌, ◌≤◌, length, IfOk};
 ghost use Rattle.notes.specs.Notes.{Moved, Ends};
 
-use libc::STDERR_FILENO;
-use station::{record, shown};
+use station::{failed, record, shown};
+use std::env::Env;
+use std::fs::Files;
+use std::io::{ErrorKind, Read, Write};
+use std::{fs, io, str};
 
 pub mod buffers;
 
@@ -17,116 +20,127 @@ pub enum Reading {
     TooLarge,
 }
 
-// What one read gave: so many bytes, the file's end, an error, or that there is no room.
+// What one read gave: so many bytes, the file's end, or that there is no room.
 #[derive(Clone, Copy)]
 enum Turn {
     More(usize),
     End,
-    Error,
     Full,
 }
 
 // Whether a file ends where its buffer does.
-fn read_past(fd: i32) -> Turn
-    ensures { Moved 0 result }
+fn read_past(from: &mut impl Read) -> io::Result<Turn>
+    ensures { IfOk result (Moved 0) }
 {
     let mut one = [0u8; 1];
-    let got = libc::read(fd, &mut one);
-    if got < 0 {
-        return Turn::Error;
+    if from.read(&mut one)? == 0 {
+        return Ok(Turn::End);
     }
-    if got == 0 {
-        return Turn::End;
-    }
-    Turn::Full
+    Ok(Turn::Full)
 }
 
 // One read into the rest of a buffer.
-fn read_more(fd: i32, rest: &mut [u8]) -> Turn
-    ensures { Moved (length rest.old) result }
+fn read_more(from: &mut impl Read, rest: &mut [u8]) -> io::Result<Turn>
+    ensures { IfOk result (Moved (length rest.old)) }
 {
     if rest.len() == 0 {
-        return read_past(fd);
+        return read_past(from);
     }
-    let got = libc::read(fd, rest);
-    if got < 0 {
-        return Turn::Error;
-    }
-    let n = io::count(got, rest);
+    let n = from.read(rest)?;
     if n == 0 {
-        return Turn::End;
+        return Ok(Turn::End);
     }
-    Turn::More(n)
+    Ok(Turn::More(n))
 }
 
 // Reads a file to its end into a buffer, from a place on.
-fn read_all(fd: i32, buf: &mut [u8], at: usize) -> Reading
+fn read_all(from: &mut impl Read, buf: &mut [u8], at: usize) -> io::Result<Reading>
     requires { at ≤ length buf.old }
-    ensures { Ends at (length buf.old) result }
+    ensures { IfOk result (Ends at (length buf.old)) }
 {
     let mut end = at;
     loop {
-        match read_more(fd, &mut buf[end..]) {
+        match read_more(from, &mut buf[end..])? {
             Turn::More(n) => {
                 end += n;
             }
-            Turn::End => return Reading::To(end),
-            Turn::Error => return Reading::Unreadable,
-            Turn::Full => return Reading::TooLarge,
+            Turn::End => return Ok(Reading::To(end)),
+            Turn::Full => return Ok(Reading::TooLarge),
         }
     }
 }
 
+// Opens a file by its name and reads it to its end into a buffer, from a place on.
+fn read_named(files: &impl Files, name: &[u8], buf: &mut [u8], at: usize) -> io::Result<Reading>
+    requires { at ≤ length buf.old }
+    ensures { IfOk result (Ends at (length buf.old)) }
+{
+    let Ok(path) = str::from_utf8(name) else {
+        return Err(io::Error::new(
+            ErrorKind::InvalidFilename,
+            "the name is not UTF-8: rename the file",
+        ));
+    };
+    read_all(&mut fs::open(files, path)?, buf, at)
+}
+
 // Says why a file was not read.
-fn say_unread(name: &[u8], reading: Reading) {
+fn say_unread(to: &mut impl Write, name: &[u8], reading: io::Result<Reading>) -> io::Result<()> {
     match reading {
-        Reading::To(_) => (),
-        Reading::Unreadable => os::fail(name),
-        Reading::TooLarge => {
-            io::write_all(STDERR_FILENO, name);
-            io::write_all(STDERR_FILENO, b": there is no room left for it\n");
+        Ok(Reading::TooLarge) => {
+            to.write_all(name)?;
+            to.write_all(b": there is no room left for it\n")
         }
+        Ok(_) => Ok(()),
+        Err(e) => failed::say_failed(to, name, e),
     }
 }
 
 // Says that an argument, counted from 1, is no name.
-fn say_no_name(i: usize) {
-    io::write_all(STDERR_FILENO, b"stationbook: the name in argument ");
-    io::print_decimal(STDERR_FILENO, i as u64);
-    io::write_all(STDERR_FILENO, b" is empty or too long\n");
+fn say_no_name(to: &mut impl Write, i: usize) -> io::Result<()> {
+    to.write_all(b"stationbook: the name in argument ")?;
+    write!(to, "{i}")?;
+    to.write_all(b" is empty or too long\n")
 }
 
-// Reads the file that an argument names into a buffer, from a place on.
-pub fn read_argument(i: usize, buf: &mut [u8], at: usize) -> Reading
+// Reads the file that an argument names into a buffer, from a place on. What fails is said on a writer.
+pub fn read_argument<R: Env + Files>(
+    rt: &R,
+    to: &mut impl Write,
+    i: usize,
+    buf: &mut [u8],
+    at: usize,
+) -> Reading
     requires { at ≤ length buf.old }
     ensures { Ends at (length buf.old) result }
 {
-    let mut name = io::buffer();
-    let n = os::arg(i, &mut name);
+    let mut name = [0u8; 4096];
+    let n = rt.arg(i, &mut name).unwrap_or(0);
     if n == 0 {
-        say_no_name(i);
+        let _ = say_no_name(to, i);
         return Reading::Unreadable;
     }
-    let fd = os::open_read(&name[..n]);
+    let reading = read_named(rt, &name[..n], buf, at);
     shown::show(&mut name);
-    if fd < 0 {
-        os::fail(&name[..n]);
-        return Reading::Unreadable;
-    }
-    let reading = read_all(fd, buf, at);
-    say_unread(&name[..n], reading);
-    libc::close(fd);
-    reading
+    let _ = say_unread(to, &name[..n], reading);
+    reading.unwrap_or(Reading::Unreadable)
 }
 
 // Writes the record of the note that an argument names at a place of an index, and answers the place after it. What is no name is left
 // out, so that the record is ill formed and no byte of it makes another.
-fn put_record(i: usize, index: &mut [u8], at: usize, start: usize, size: usize) -> usize
+fn put_record(
+    env: &impl Env,
+    i: usize,
+    index: &mut [u8],
+    at: usize,
+    start: usize,
+    size: usize,
+) -> usize
     requires { at + 298 ≤ length index.old }
     ensures { result ≤ at + 298 }
 {
     let mut name = [0u8; 255];
-    let n = os::arg(i, &mut name);
+    let n = env.arg(i, &mut name).unwrap_or(0);
     if index::name::is_name(&name[..n]) {
         return record::put_record(index, at, &name[..n], start, size);
     }
@@ -135,7 +149,9 @@ fn put_record(i: usize, index: &mut [u8], at: usize, start: usize, size: usize) 
 
 // Reads the notes that so many arguments from one on name, one behind the other, and makes their index. Answers where the index ends, and
 // where each note ends in the contents, behind a 0 for the first one's start.
-pub fn read_notes(
+pub fn read_notes<R: Env + Files>(
+    rt: &R,
+    to: &mut impl Write,
     first: usize,
     count: usize,
     index: &mut [u8],
@@ -149,10 +165,10 @@ pub fn read_notes(
     let mut end = 0;
     let mut k = 0;
     while k < count {
-        let Reading::To(e) = read_argument(first + k, contents, end) else {
+        let Reading::To(e) = read_argument(rt, to, first + k, contents, end) else {
             return Reading::Unreadable;
         };
-        indexed = put_record(first + k, index, indexed, end, e - end);
+        indexed = put_record(rt, first + k, index, indexed, end, e - end);
         end = e;
         k += 1;
         starts[k] = end;
