@@ -4,7 +4,7 @@ use native.Mathlib.Omega.{arith}
 use mathlib.Core.Path.{◌≡◌, refl, sym, ap, subst, ◌∙◌}
 use mathlib.Core.List.{List, ◌++◌}
 use mathlib.Core.Option.{Option}
-use lib.ListN.{length, drop, set}
+use lib.ListN.{length, drop}
 use Rattle.text.specs.Bytes.{part}
 use Rattle.text.proofs.BytesLaws.{rest}
 use Rattle.link.specs.Links.{relink, FoundLink}
