@@ -4,12 +4,15 @@
 ghost use Rattle.std.specs.Prelude.{◌≡◌, ◌≤◌};
 ghost use Rattle.report.specs.Report.{argument_of, bounded_of};
 
-use libc::STDERR_FILENO;
 use station::shown;
+use std::env::Env;
+use std::io;
+use std::io::Write;
 
 pub mod named;
 
 // The argument that a place stands in, where the URL is this argument, the list the next, and the notes follow.
+#[tactic(auto, unfolding(crate::specs::Report::argument_of))]
 fn argument_of(url: usize, number: u64, file: usize, line: usize) -> usize
     requires { (url ≤ 71) × ((file ≤ 4294967295) × (line ≤ 4294967295)) }
     ensures { result ≡ argument_of url number file line }
@@ -24,6 +27,7 @@ fn argument_of(url: usize, number: u64, file: usize, line: usize) -> usize
 }
 
 // A file's or a line's number, which is never past 32 bits.
+#[tactic(auto, unfolding(crate::specs::Report::bounded_of))]
 fn bounded(n: u64) -> usize
     ensures { (result ≡ bounded_of n) × (result ≤ 4294967295) }
 {
@@ -33,63 +37,70 @@ fn bounded(n: u64) -> usize
     n as usize
 }
 
-fn say_argument(i: usize) {
-    let mut word = io::buffer();
-    let n = os::arg(i, &mut word);
+fn say_argument(env: &impl Env, to: &mut impl Write, i: usize) -> io::Result<()> {
+    let mut word = [0u8; 4096];
+    let n = env.arg(i, &mut word).unwrap_or(0);
     shown::show(&mut word);
-    io::write_all(STDERR_FILENO, &word[..n]);
+    to.write_all(&word[..n])
 }
 
-fn say_line(line: usize) {
+fn say_line(to: &mut impl Write, line: usize) -> io::Result<()> {
     if 0 < line {
-        io::write_all(STDERR_FILENO, b":");
-        io::print_decimal(STDERR_FILENO, line as u64);
+        write!(to, ":{line}")?;
     }
+    Ok(())
 }
 
 // A place as compilers write it. An index line is a note, and has no line in it.
-fn say_place(url: usize, number: u64, file: usize, line: usize)
+fn say_place(
+    env: &impl Env,
+    to: &mut impl Write,
+    url: usize,
+    number: u64,
+    file: usize,
+    line: usize,
+) -> io::Result<()>
     requires { (url ≤ 71) × ((file ≤ 4294967295) × (line ≤ 4294967295)) }
 {
     if number == 8 {
-        return;
+        return Ok(());
     }
     if number == 6 {
-        io::write_all(STDERR_FILENO, b"URL");
+        to.write_all(b"URL")?;
     } else {
-        say_argument(argument_of(url, number, file, line));
+        say_argument(env, to, argument_of(url, number, file, line))?;
         if 4 < number {
-            say_line(line);
+            say_line(to, line)?;
         }
     }
-    io::write_all(STDERR_FILENO, b": ");
+    to.write_all(b": ")
 }
 
 // What a refusal says, on a line. The URL is this argument, the list the next, and the notes follow; where each note ends in
 // the contents and the next one starts.
 pub fn say_refusal(
+    env: &impl Env,
+    to: &mut impl Write,
     url: usize,
     numbers: [u64; 6],
     starts: &[usize; 65],
     contents: &[u8],
     list: &[u8],
-)
+) -> io::Result<()>
     requires { url ≤ 71 }
 {
     let number = numbers[1];
     let file = bounded(numbers[2]);
     let line = bounded(numbers[3]);
-    say_place(url, number, file, line);
-    words::say_first(STDERR_FILENO, number);
+    say_place(env, to, url, number, file, line)?;
+    words::say_first(to, number)?;
     if number == 19 {
         let other = bounded(numbers[4]);
-        say_argument(argument_of(url, number, other, 0));
-        say_line(bounded(numbers[5]));
+        say_argument(env, to, argument_of(url, number, other, 0))?;
+        say_line(to, bounded(numbers[5]))?;
     } else if words::has_name(number) {
-        named::say_named(file, line, starts, contents, list);
+        named::say_named(to, file, line, starts, contents, list)?;
     }
-    words::say_last(STDERR_FILENO, number);
-    io::write_all(STDERR_FILENO, b" (refusal ");
-    io::print_decimal(STDERR_FILENO, number);
-    io::write_all(STDERR_FILENO, b")\n");
+    words::say_last(to, number)?;
+    write!(to, " (refusal {number})\n")
 }

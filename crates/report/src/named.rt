@@ -1,60 +1,66 @@
 // The file that a line of a note or of the list names.
-use libc::STDERR_FILENO;
 use station::{line, shown};
+use std::io;
+use std::io::Write;
 
 // A text as it is shown, if it is no longer than a path.
-fn say_shown(s: &[u8]) {
-    let mut path = io::buffer();
+fn say_shown(to: &mut impl Write, s: &[u8]) -> io::Result<()> {
+    let mut path = [0u8; 4096];
     let n = s.len();
     if 4096 < n {
-        io::write_all(STDERR_FILENO, b"a path of more than 4,096 bytes");
-        return;
+        return to.write_all(b"a path of more than 4,096 bytes");
     }
     buffer::copy(s, &mut path, 0);
     shown::show(&mut path);
-    io::write_all(STDERR_FILENO, &path[..n]);
+    to.write_all(&path[..n])
 }
 
 // The path of a region's opener.
-fn say_path(opener: &[u8]) {
+fn say_path(to: &mut impl Write, opener: &[u8]) -> io::Result<()> {
     let p = line::named_on(opener);
     let start = p.start;
     let end = p.end;
-    say_shown(&opener[start..end]);
+    say_shown(to, &opener[start..end])
 }
 
 // The path of the region that opens on a line of a note.
-fn say_named_on(note: &[u8], number: usize) {
+fn say_named_on(to: &mut impl Write, note: &[u8], number: usize) -> io::Result<()> {
     let l = line::line_at(note, number);
     let start = l.start;
     let end = l.end;
-    say_path(&note[start..end]);
+    say_path(to, &note[start..end])
 }
 
 // A line of the list, which is a name whatever stands on it.
-fn say_listed(list: &[u8], number: usize) {
+fn say_listed(to: &mut impl Write, list: &[u8], number: usize) -> io::Result<()> {
     let l = line::line_at(list, number);
     let start = l.start;
     let end = l.end;
     if start == end {
-        io::write_all(STDERR_FILENO, b"an empty name");
-        return;
+        return to.write_all(b"an empty name");
     }
-    say_shown(&list[start..end]);
+    say_shown(to, &list[start..end])
 }
 
 // The file that is named at a place: by a note's region, or by the list. Where each note starts in the contents and the one before it ends.
-pub fn say_named(file: usize, line: usize, starts: &[usize; 65], contents: &[u8], list: &[u8]) {
+pub fn say_named(
+    to: &mut impl Write,
+    file: usize,
+    line: usize,
+    starts: &[usize; 65],
+    contents: &[u8],
+    list: &[u8],
+) -> io::Result<()> {
     if file == 0 {
-        say_listed(list, line);
-        return;
+        return say_listed(to, list, line);
     }
     if 64 < file {
-        return;
+        return Ok(());
     }
     let start = starts[file - 1];
     let end = starts[file];
     if start <= end && end <= contents.len() {
-        say_named_on(&contents[start..end], line);
+        return say_named_on(to, &contents[start..end], line);
     }
+    Ok(())
 }
