@@ -1,33 +1,25 @@
 -- The next file of a fill, and what the whole comes to where there is none. Assumes nothing.
-use Prim.Native.Nat.{ℕ, suc, ◌+◌, ◌-◌, ◌≤◌, ◌<◌}
-use native.Mathlib.Omega.{arith}
+use Prim.Native.Nat.{ℕ, ◌≤◌}
 use mathlib.Core.Path.{◌≡◌, refl, sym, ◌∙◌, ap}
-use mathlib.Core.Bool.{Bool, false}
+use mathlib.Core.Bool.{Bool}
 use mathlib.Core.List.{List, [], ◌++◌}
-use lib.ListN.{length, get_or, take}
+use lib.ListN.{length}
 use Rattle.insertion.specs.Insertion.{tested}
 use Rattle.answer.specs.Answer.{place}
 use Rattle.answer.specs.declared.Refusal.{Refusal}
 use Rattle.text.specs.Bytes.{part}
 use Rattle.index.specs.Index.{File, file_of}
-use Rattle.walk.specs.Steps.{Judged, refused, judge}
-use Rattle.regions.specs.Regions.{scanned}
-use Rattle.regions.specs.Hosts.{start_cursor, host_rest, HostAt, region_at, WholeHost, LastHost}
+use Rattle.regions.specs.Hosts.{host_rest, region_at, WholeHost, LastHost}
 use Rattle.regions.specs.declared.host.HostCursor.{HostCursor}
 use Rattle.regions.specs.declared.host.Opening.{Opening}
 use Rattle.opening.specs.declared.Filling.{Filling}
-use Rattle.filling.specs.declared.Filled.{Filled}
-use Rattle.filling.specs.declared.Filled.TheVariants.{Text, NoRegion, Refused}
-use Rattle.chains.specs.Chains.{Rest, file_at, next, through, chain, next_named}
+use Rattle.chains.specs.Chains.{next, next_named}
 use Rattle.walk.specs.Outcome.{Outcome, refusal, outcome}
-use Rattle.chains.specs.Fill.{walk, walk_rest, filled}
 use Rattle.opening.specs.Opening.{named_of, Entry, enters, barred, entry_of}
-use Rattle.filling.specs.Filling.{read_filled, with_files, chain_to, rest_at, Running, Turned, IsInto, IsDone, FilledWithin}
-use Rattle.regions.proofs.HostLaws.{host-start}
-use Rattle.filling.proofs.TakenLaws.{fill_wrong, fill_none, fill-walk}
+use Rattle.filling.specs.Filling.{with_files, chain_to, IsInto, IsDone}
 use Rattle.chains.proofs.GrowLaws.{next-free}
 use Rattle.opening.proofs.EntryLaws.{entry_enters}
-use Rattle.filling.proofs.TurnLaws.{running-start, turn_last, turn_barred, turn_on}
+use Rattle.filling.proofs.TurnLaws.{turn_last, turn_barred, turn_on}
 
 -- what a region comes to before its file
 abbrev pub entry_at : List File → List ℕ → List Bool → List ℕ → Filling → List ℕ → ℕ → Opening → Entry

@@ -1,5 +1,5 @@
 -- What a fill comes to by what a scan of its file finds; a file with no region is embedded as it stands. Assumes nothing.
-use Prim.Native.Nat.{ℕ, zero, suc, ◌+◌, ◌-◌, ◌≤◌}
+use Prim.Native.Nat.{ℕ, suc, ◌+◌, ◌-◌, ◌≤◌}
 use native.Mathlib.Omega.{arith}
 use mathlib.Core.Path.{◌≡◌, refl, sym, ◌∙◌, ap}
 use mathlib.Core.Bool.{Bool, true}
@@ -12,12 +12,11 @@ use Rattle.text.specs.Lines.{pieces}
 use Rattle.scan.specs.Scan.{scan, regions_of}
 use Rattle.scan.specs.declared.event.Region.{Region}
 use Rattle.index.specs.Index.{File}
-use Rattle.heading.specs.Walk.{walk_begin}
 use Rattle.heading.specs.declared.walk.LineKind.{LineKind}
 use Rattle.walk.specs.Parts.{Part}
 use Rattle.walk.specs.Steps.{Judged, given, refused, judge}
-use Rattle.shift.specs.Shift.{Told, told_from, drop_start, drop_end, told_lines}
-use Rattle.regions.specs.Regions.{Regions, behind, region, regions_from, own_kinds, Scanned, problem, noRegion as unmarked, regions, problems_of, scanned_by, host_regions, scanned}
+use Rattle.shift.specs.Shift.{Told, told_lines}
+use Rattle.regions.specs.Regions.{Regions, regions_from, own_kinds, Scanned, problem, noRegion as unmarked, regions, problems_of, scanned_by, scanned}
 use Rattle.survey.specs.Surveys.{survey_of}
 use Rattle.survey.specs.declared.Surveyed.TheVariants.{Wrong, NoRegion as Bare}
 use Rattle.survey.proofs.SurveyLaws.{survey_problem, survey_none}
@@ -26,7 +25,7 @@ use Rattle.embedding.specs.Unmarked.{Unmarked}
 use Rattle.insertion.specs.Insertion.{inserted_of}
 use Rattle.embedding.proofs.UnmarkedLaws.{unmarked_end}
 use Rattle.filling.specs.declared.Filled.{Filled}
-use Rattle.chains.specs.Chains.{Chain, file_at, through, found, chain}
+use Rattle.chains.specs.Chains.{file_at, through, found, chain}
 use Rattle.walk.specs.Outcome.{Outcome, text, noRegion, refusal, outcome}
 use Rattle.chains.specs.Fill.{walk, walk_rest, filled}
 use Rattle.filling.specs.Filling.{read_filled, taken_in, embedded_by, chain_to}
