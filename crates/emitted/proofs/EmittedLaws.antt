@@ -2,9 +2,7 @@
 use Prim.Native.Nat.{ℕ, zero, suc, ◌+◌, ◌-◌, ◌≤◌, ◌<◌}
 use native.Mathlib.Omega.{arith}
 use mathlib.Core.Path.{◌≡◌, refl, sym, ap, subst, ◌∙◌}
-use mathlib.Core.List.{List, [], ◌∷◌, ◌++◌}
-use denote.Enum.Declared.{tag_of}
-use types.Run.{OneOf, miss}
+use mathlib.Core.List.{List, ◌++◌}
 use lib.IntN.{ℤ, pos, ◌+ℤ◌}
 use lib.ListN.{length}
 use Rattle.text.specs.Bytes.{part}
@@ -13,7 +11,6 @@ use Rattle.heading.specs.declared.level.Moved.{Moved}
 use Rattle.heading.specs.declared.level.Moved.TheVariants.{To, Past}
 use Rattle.heading.specs.declared.walk.LineKind.{LineKind}
 use Rattle.heading.specs.declared.walk.LineKind.TheVariants.{Quoted, Heading, Other}
-use Rattle.heading.specs.contracts.walk.LineKind.{the_type}
 use Rattle.heading.proofs.LevelLaws.{moved_level}
 use Rattle.link.specs.Links.{relink}
 use Rattle.shift.specs.Shift.{at_level}
@@ -86,7 +83,7 @@ module _ {source : Source} {room : Room} {c w : List ℕ} (able : Able source ro
     new_put same u r h = subst (λ (x : List ℕ). Wrote room x w u r) line-is (text-put able f new.level new.start new.end new_order new_end v n q same u r h)
 
 -- what a line is, by what it is not
-pub open_line : (k : LineKind) → OneOf (1 ∷ 2 ∷ []) (tag_of the_type k) → Open k
-open_line Quoted h = miss (1 ∷ 2 ∷ []) 0 tt h
+pub open_line : (k : LineKind) → (k ≡ Quoted → ⊥) → Open k
+open_line Quoted h = h refl
 open_line (Heading n a e) h = tt
 open_line Other h = tt
