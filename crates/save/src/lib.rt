@@ -3,50 +3,86 @@
 // Saves a text: to a new file beside the one named, which then takes its name. So the name has the old text or the new one, whole.
 ghost use Rattle.std.specs.Prelude.{◌≤◌, length};
 
-use libc::STDERR_FILENO;
 use resolve::Resolved;
-use station::shown;
+use station::{failed, shown};
+use std::env::Env;
+use std::fs::{Files, OpenFile, OpenOptions};
+use std::io::{ErrorKind, Write};
+use std::{fs, io, str};
 
 // The longest name: `.part` behind it still makes a path.
 const MOST: usize = 4_000;
 
-// Writes a text to an open file, and answers whether all of it has reached the disk. The file is closed.
-fn write_whole(fd: i32, text: &[u8]) -> bool {
-    let written = io::write_all(fd, text);
-    let kept = written && libc::fsync(fd) == 0;
-    let closed = libc::close(fd) == 0;
-    kept && closed
+// A file's name as the system's calls take it.
+fn path_of(name: &[u8]) -> io::Result<&str> {
+    match str::from_utf8(name) {
+        Ok(path) => Ok(path),
+        Err(_) => Err(io::Error::new(
+            ErrorKind::InvalidFilename,
+            "the name is not UTF-8: rename the file",
+        )),
+    }
+}
+
+// Writes a text to an open file. It has reached the disk then.
+fn write_whole(file: &mut (impl Write + OpenFile), text: &[u8]) -> io::Result<()> {
+    file.write_all(text)?;
+    file.sync_all()
+}
+
+// Writes a text to a new file, in place of an old one of its name. No file is left where that fails.
+fn write_new(files: &impl Files, name: &[u8], text: &[u8]) -> io::Result<()> {
+    let path = path_of(name)?;
+    let _ = fs::remove_file(files, path);
+    let mut file = OpenOptions::new()
+        .write(true)
+        .create_new(true)
+        .open(files, path)?;
+    let written = write_whole(&mut file, text);
+    if written.is_err() {
+        let _ = fs::remove_file(files, path);
+    }
+    written
+}
+
+// Gives a file another's name. It is removed where that fails.
+fn rename(files: &impl Files, from: &[u8], to: &[u8]) -> io::Result<()> {
+    let path = path_of(from)?;
+    let renamed = fs::rename(files, path, path_of(to)?);
+    if renamed.is_err() {
+        let _ = fs::remove_file(files, path);
+    }
+    renamed
 }
 
 // Writes a text to a new file beside this one, and renames it. Answers whether it did. What fails is said by the other file's name as it
 // is shown, which begins with this one's.
-fn replace(name: &[u8], beside: &[u8], shown: &[u8], text: &[u8]) -> bool
+fn replace(
+    files: &impl Files,
+    to: &mut impl Write,
+    name: &[u8],
+    beside: &[u8],
+    shown: &[u8],
+    text: &[u8],
+) -> bool
     requires { length name.now ≤ length shown.now }
 {
-    os::unlink(beside);
-    let fd = os::create(beside);
-    if fd < 0 {
-        os::fail(shown);
+    if let Err(e) = write_new(files, beside, text) {
+        let _ = failed::say_failed(to, shown, e);
         return false;
     }
-    if !write_whole(fd, text) {
-        os::fail(shown);
-        os::unlink(beside);
-        return false;
-    }
-    if os::rename(beside, name) != 0 {
+    if let Err(e) = rename(files, beside, name) {
         let n = name.len();
-        os::fail(&shown[..n]);
-        os::unlink(beside);
+        let _ = failed::say_failed(to, &shown[..n], e);
         return false;
     }
     true
 }
 
-// Saves a text to the file that an argument names.
-pub fn save(i: usize, text: &[u8]) -> bool {
-    let mut name = io::buffer();
-    let n = os::arg(i, &mut name);
+// Saves a text to the file that an argument names. What fails is said on a writer.
+pub fn save<R: Env + Files>(rt: &R, to: &mut impl Write, i: usize, text: &[u8]) -> bool {
+    let mut name = [0u8; 4096];
+    let n = rt.arg(i, &mut name).unwrap_or(0);
     if MOST < n {
         return false;
     }
@@ -54,14 +90,14 @@ pub fn save(i: usize, text: &[u8]) -> bool {
     let end = buffer::copy(b".part", &mut beside, n);
     let mut said = beside;
     shown::show(&mut said);
-    replace(&name[..n], &beside[..end], &said[..end], text)
+    replace(rt, to, &name[..n], &beside[..end], &said[..end], text)
 }
 
 // Whether two names are one path, without a look at the disk. A name that does not start at the root is put below parts that no name has,
 // so that a `..` drops one of those.
 fn is_same(a: &[u8], b: &[u8]) -> bool {
     let above = b"\0/\0/\0/\0/\0/\0/\0/\0";
-    let mut whole = io::buffer();
+    let mut whole = [0u8; 4096];
     let Resolved::From(at) = resolve::resolve_into(b, above, &mut whole) else {
         return false;
     };
@@ -69,60 +105,59 @@ fn is_same(a: &[u8], b: &[u8]) -> bool {
 }
 
 // Whether an argument is the file that a book goes to, or the one beside it.
-fn is_book(i: usize, book: &[u8], beside: &[u8]) -> bool {
-    let mut name = io::buffer();
-    let n = os::arg(i, &mut name);
+fn is_book(env: &impl Env, i: usize, book: &[u8], beside: &[u8]) -> bool {
+    let mut name = [0u8; 4096];
+    let n = env.arg(i, &mut name).unwrap_or(0);
     is_same(&name[..n], book) || is_same(&name[..n], beside)
 }
 
 // Says of an argument that a book would be written over it.
-fn say_over(i: usize) {
-    let mut name = io::buffer();
-    let n = os::arg(i, &mut name);
+fn say_over(env: &impl Env, to: &mut impl Write, i: usize) -> io::Result<()> {
+    let mut name = [0u8; 4096];
+    let n = env.arg(i, &mut name).unwrap_or(0);
     shown::show(&mut name);
-    io::write_all(STDERR_FILENO, &name[..n]);
-    io::write_all(
-        STDERR_FILENO,
-        b": the book would be written over this file\n",
-    );
+    to.write_all(&name[..n])?;
+    to.write_all(b": the book would be written over this file\n")
 }
 
 // Whether one of so many arguments from one on is the file that a book goes to, or the one beside it. The first such is said.
-fn is_given(first: usize, count: usize, book: &[u8], beside: &[u8]) -> bool
+fn is_given(
+    env: &impl Env,
+    to: &mut impl Write,
+    first: usize,
+    count: usize,
+    book: &[u8],
+    beside: &[u8],
+) -> bool
     requires { (first ≤ 7) × (count ≤ 65) }
 {
-    let mut k = 0;
-    while k < count {
-        if is_book(first + k, book, beside) {
-            say_over(first + k);
+    for k in 0..count {
+        if is_book(env, first + k, book, beside) {
+            let _ = say_over(env, to, first + k);
             return true;
         }
-        k += 1;
     }
     false
 }
 
-fn no_name() -> bool {
-    io::write_all(
-        STDERR_FILENO,
-        b"stationbook: the name of the book is empty or too long\n",
-    );
+fn no_name(to: &mut impl Write) -> bool {
+    let _ = to.write_all(b"stationbook: the name of the book is empty or too long\n");
     false
 }
 
 // Whether a book can go to the file that an argument names: the name is one, and none of so many arguments from one on.
-pub fn can_save(i: usize, first: usize, count: usize) -> bool
+pub fn can_save(env: &impl Env, to: &mut impl Write, i: usize, first: usize, count: usize) -> bool
     requires { (first ≤ 7) × (count ≤ 65) }
 {
-    let mut name = io::buffer();
-    let n = os::arg(i, &mut name);
+    let mut name = [0u8; 4096];
+    let n = env.arg(i, &mut name).unwrap_or(0);
     if n == 0 {
-        return no_name();
+        return no_name(to);
     }
     if MOST < n {
-        return no_name();
+        return no_name(to);
     }
     let mut beside = name;
     let end = buffer::copy(b".part", &mut beside, n);
-    !is_given(first, count, &name[..n], &beside[..end])
+    !is_given(env, to, first, count, &name[..n], &beside[..end])
 }
