@@ -1,0 +1,7 @@
+-- `checks::of_checked` meets its contract: each arm by the checks that were matched. Assumes nothing.
+use mathlib.Core.Path.{ap, sym, ◌∙◌}
+use Rattle.leaf.specs.Link.{check_numbers}
+use Rattle.leaf.proofs.checks.of_checked.Goals as goal
+
+pub returns-in-Refused : goal.returns-in-Refused
+returns-in-Refused c = c.numbers-in-Refused.ensures ∙ ap check_numbers (sym c.in-Refused.is)

@@ -1,0 +1,7 @@
+-- `links::of_link` meets its contract: each arm by what was matched. Assumes nothing.
+use mathlib.Core.Path.{ap, sym}
+use Rattle.leaf.specs.Link.{link_numbers}
+use Rattle.leaf.proofs.links.of_link.Goals as goal
+
+pub returns-in-Link : goal.returns-in-Link
+returns-in-Link c = ap link_numbers (sym c.in-Link.is)

@@ -1,0 +1,7 @@
+-- `links::of_target` meets its contract: each arm by what was matched. Assumes nothing.
+use mathlib.Core.Path.{ap, sym}
+use Rattle.leaf.specs.Link.{target_numbers}
+use Rattle.leaf.proofs.links.of_target.Goals as goal
+
+pub returns-in-Path : goal.returns-in-Path
+returns-in-Path c = ap target_numbers (sym c.in-Path.is)

@@ -1,0 +1,5 @@
+-- `regions::of_region` meets its contract: each arm by what was matched. Assumes nothing.
+use Rattle.leaf.proofs.regions.of_region.Goals as goal
+
+pub returns-in-Whole : goal.returns-in-Whole
+returns-in-Whole c = rw (c.in-Whole.is, c.kind.ensures)
