@@ -21,7 +21,7 @@ use Rattle.heading.specs.declared.walk.LineKind.{LineKind}
 use Rattle.heading.specs.declared.walk.LineKind.TheVariants.{Quoted, Heading, Other}
 use Rattle.index.specs.Index.{File}
 use Rattle.walk.specs.Parts.{Part}
-use Rattle.walk.specs.Steps.{done, go, part}
+use Rattle.walk.specs.Steps.{done, part}
 use Rattle.walk.proofs.HoldLaws.{Each, each_append, Holds, holds_go, holds_unless}
 use Rattle.shift.specs.Shift.{Told}
 use Rattle.chains.proofs.PlaceLaws.{past_places}
