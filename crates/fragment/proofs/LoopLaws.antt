@@ -1,39 +1,32 @@
 -- The loop of a fill over the regions of its host, with the cursor and the buffer. Assumes nothing.
-use Prim.Native.Nat.{ℕ, suc, ◌+◌, ◌-◌, ◌≤◌, ◌<◌}
+use Prim.Native.Nat.{ℕ, suc, ◌-◌, ◌≤◌, ◌<◌}
 use native.Mathlib.Omega.{arith}
 use mathlib.Core.Path.{◌≡◌, refl, sym, ◌∙◌, ap}
-use mathlib.Core.Bool.{Bool, false}
-use mathlib.Core.List.{List, [], ◌++◌}
-use lib.ListN.{length, get_or, take}
-use Rattle.answer.specs.Answer.{place}
-use Rattle.answer.specs.declared.Refusal.{Refusal}
-use Rattle.text.specs.Bytes.{part}
+use mathlib.Core.Bool.{Bool}
+use mathlib.Core.List.{List, []}
+use lib.ListN.{length, take}
 use Rattle.index.specs.Index.{File, file_of}
-use Rattle.walk.specs.Steps.{Judged, refused, judge}
+use Rattle.walk.specs.Steps.{Judged, judge}
 use Rattle.regions.specs.Regions.{scanned}
 use Rattle.survey.specs.declared.Surveyed.{Surveyed}
 use Rattle.survey.specs.declared.Surveyed.TheVariants.{Wrong, NoRegion as Bare, Regions as Some}
 use Rattle.survey.specs.Surveys.{survey_of}
-use Rattle.regions.specs.Hosts.{start_cursor, host_rest, HostAt, region_at, WholeHost, LastHost}
+use Rattle.regions.specs.Hosts.{start_cursor, host_rest, HostAt}
 use Rattle.regions.specs.declared.host.HostCursor.{HostCursor}
-use Rattle.regions.specs.declared.host.Opening.{Opening}
 use Rattle.opening.specs.declared.Filling.{Filling}
 use Rattle.filling.specs.declared.Filled.{Filled}
 use Rattle.filling.specs.declared.Filled.TheVariants.{Text, NoRegion, Refused}
 use Rattle.taking.specs.declared.Stand.{Stand}
 use Rattle.taking.specs.declared.Stand.TheVariants.{On, Done}
-use Rattle.chains.specs.Chains.{Rest, file_at, next, through, chain}
-use Rattle.walk.specs.Outcome.{Outcome, refusal, outcome}
-use Rattle.chains.specs.Fill.{walk, walk_rest, filled}
-use Rattle.opening.specs.Opening.{named_of, Entry, enters, barred, entry_of}
-use Rattle.filling.specs.Filling.{read_filled, with_files, chain_to, rest_at, Running, Turned, IsInto, IsDone, FilledWithin}
+use Rattle.chains.specs.Chains.{chain}
+use Rattle.walk.specs.Outcome.{Outcome, outcome}
+use Rattle.chains.specs.Fill.{walk_rest, filled}
+use Rattle.filling.specs.Filling.{read_filled, rest_at, Running, Turned, FilledWithin}
 use Rattle.taking.specs.Stands.{first_of, after_of}
 use Rattle.regions.proofs.HostLaws.{host-start}
 use Rattle.survey.proofs.SurveyLaws.{survey_regions}
 use Rattle.filling.proofs.TakenLaws.{fill_wrong, fill_none, fill-walk}
-use Rattle.chains.proofs.GrowLaws.{next-free}
-use Rattle.opening.proofs.EntryLaws.{entry_enters}
-use Rattle.filling.proofs.TurnLaws.{running-start, turn_last, turn_barred, turn_on}
+use Rattle.filling.proofs.TurnLaws.{running-start}
 
 -- what the walk over all regions of a host comes to
 abbrev pub whole_of : List File → List ℕ → List Bool → List ℕ → List ℕ → Filling → Judged (List ℕ)
