@@ -1,28 +1,43 @@
 #![tactic(auto)]
 
 // Prints the listing of a scan of the first 16,384 bytes of standard input, or the number and the line of a refusal.
-use answer::Answer;
-use libc::{STDIN_FILENO, STDOUT_FILENO};
+ghost use Rattle.std.specs.Prelude.{◌≤◌, length, IfOk};
 
-// `refused`, number, line.
-fn print_refusal(numbers: [u64; 6]) {
-    io::write_all(STDOUT_FILENO, b"refused\t");
-    io::print_decimal(STDOUT_FILENO, numbers[1]);
-    io::write_all(STDOUT_FILENO, b"\t");
-    io::print_decimal(STDOUT_FILENO, numbers[3]);
-    io::write_all(STDOUT_FILENO, b"\n");
+use answer::Answer;
+use std::io;
+use std::io::{Read, Write};
+
+// Reads until a buffer is full or the input ends, and answers how many bytes came.
+fn read_full(from: &mut impl Read, buf: &mut [u8]) -> io::Result<usize>
+    ensures { IfOk result (λ n. n ≤ length buf.new) }
+{
+    let mut done = 0;
+    while done < buf.len() {
+        let n = from.read(&mut buf[done..])?;
+        if n == 0 {
+            break;
+        }
+        done += n;
+    }
+    Ok(done)
 }
 
-fn main() {
+// `refused`, number, line.
+fn print_refusal(to: &mut impl Write, numbers: [u64; 6]) -> io::Result<()> {
+    let number = numbers[1];
+    let line = numbers[3];
+    write!(to, "refused\t{number}\t{line}\n")
+}
+
+fn main(rt: HostRuntime) -> io::Result<()> {
     let mut input = [0u8; 16384];
-    let n = io::read_full(STDIN_FILENO, &mut input);
-    let mut out = io::large_buffer();
+    let n = read_full(&mut rt.stdin(), &mut input)?;
+    let mut out = [0u8; 65536];
     let a = listing::scan(&input[..n], &mut out);
+    let mut to = io::writer(&rt);
     match a {
-        Answer::Accepted { length, files: _ } => {
-            io::write_all(STDOUT_FILENO, &out[..length]);
-        }
-        Answer::NoRegion => (),
-        Answer::Refused(_) => print_refusal(answer::numbers(a)),
+        Answer::Accepted { length, files: _ } => to.write_all(&out[..length]),
+        Answer::NoRegion => Ok(()),
+        Answer::Refused(_) => print_refusal(&mut to, answer::numbers(a)),
     }
 }
