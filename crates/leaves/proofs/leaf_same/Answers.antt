@@ -1,0 +1,8 @@
+-- `leaves::leaf_same` meets its contract: the call's answer, as a number. Assumes nothing.
+use mathlib.Core.Path.{ap, ◌∙◌}
+use Rattle.leaf.specs.Leaf.{one}
+use Rattle.text.specs.Bytes.{bit}
+use Rattle.leaves.proofs.leaf_same.Goals as goal
+
+pub returns : goal.returns
+returns c = c.one.ensures ∙ ap one (c.bit.ensures ∙ ap bit c.same_anchor-b.ensures)
