@@ -1,7 +1,7 @@
 -- Assemblies on bytes: refusals 16 to 19, each beside an assembly that is given; what is dropped, and which links are rewritten. Assumes nothing.
 use Prim.Native.Nat.{ℕ, ◌*◌, ◌+◌}
 use Prim.Native.String.{String}
-use mathlib.Core.List.{List, [], ◌∷◌, ◌++◌}
+use mathlib.Core.List.{List, ◌++◌}
 use mathlib.Core.Path.{◌≡◌, refl}
 use lib.ListN.{length}
 use Rattle.answer.specs.Answer.{place}

@@ -1,7 +1,7 @@
 -- Books on bytes: nested files, the allowance running on, a member kept as it stands, and each of refusals 9 to 19. Assumes nothing.
 use Prim.Native.Nat.{ℕ, ◌+◌, ◌*◌}
 use Prim.Native.String.{String}
-use mathlib.Core.List.{List, [], ◌∷◌, ◌++◌}
+use mathlib.Core.List.{List, ◌++◌}
 use lib.ListN.{length}
 use mathlib.Core.Path.{◌≡◌, refl}
 use Rattle.answer.specs.Answer.{place}

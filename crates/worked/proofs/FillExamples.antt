@@ -1,7 +1,6 @@
 -- Fills on bytes: each of refusals 9 to 17 beside a fill that is given, and where levels come from. Assumes nothing.
 use Prim.Native.Nat.{ℕ, ◌*◌, ◌+◌}
 use Prim.Native.String.{String}
-use mathlib.Core.List.{List, [], ◌∷◌}
 use mathlib.Core.Path.{◌≡◌, refl}
 use lib.ListN.{length}
 use Rattle.answer.specs.Answer.{place}
