@@ -4,7 +4,8 @@
 ghost use Rattle.std.specs.Prelude.{◌≡◌, length};
 
 use answer::Answer;
-use libc::{STDIN_FILENO, STDOUT_FILENO};
+use std::io;
+use std::io::{Read, Write};
 use stored::header::Header;
 use stored::{header, print};
 use text::ascii;
@@ -26,57 +27,69 @@ fn text_buffer() -> [u8; 16384]
 }
 
 // Fills the text from the input, scans it and prints the answer and the outline. Answers whether all of the text was there.
-fn replay_text(text: &mut [u8], out: &mut [u8]) -> bool {
-    let n = io::read_full(STDIN_FILENO, text);
-    if n < text.len() {
-        stored::print_ill_formed();
-        return false;
+fn replay_text(
+    from: &mut impl Read,
+    to: &mut impl Write,
+    text: &mut [u8],
+    out: &mut [u8],
+) -> io::Result<bool> {
+    if !stored::is_filled(from, text)? {
+        stored::print_ill_formed(to)?;
+        return Ok(false);
     }
     let a = listing::scan(text, out);
-    print::numbers(answer::numbers(a));
+    print::numbers(to, answer::numbers(a))?;
     if let Answer::Accepted { length, files: _ } = a {
-        io::write_all(STDOUT_FILENO, &out[..length]);
+        to.write_all(&out[..length])?;
     }
     if ascii::wide_line(text) == 0 {
-        outline::print(text);
+        outline::print(to, text)?;
     }
-    true
+    Ok(true)
 }
 
 // A case with a text of so many bytes, scanned into an output of `room` zeros, if there is memory for both.
-fn replay_case(length: usize, room: usize) -> bool {
+fn replay_case(
+    from: &mut impl Read,
+    to: &mut impl Write,
+    length: usize,
+    room: usize,
+) -> io::Result<bool> {
     if MOST_TEXT < length {
-        stored::print_ill_formed();
-        return false;
+        stored::print_ill_formed(to)?;
+        return Ok(false);
     }
     if MOST_ROOM < room {
-        stored::print_ill_formed();
-        return false;
+        stored::print_ill_formed(to)?;
+        return Ok(false);
     }
     let mut text = text_buffer();
-    let mut out = io::large_buffer();
-    replay_text(&mut text[..length], &mut out[..room])
+    let mut out = [0u8; 65536];
+    replay_text(from, to, &mut text[..length], &mut out[..room])
 }
 
 // Reads a header and replays its case. Answers whether to go on: not at the input's end or after an ill-formed case.
-fn replay_next() -> bool {
+fn replay_next(from: &mut impl Read, to: &mut impl Write) -> io::Result<bool> {
     let mut bytes = [0u8; 14];
-    let n = io::read_full(STDIN_FILENO, &mut bytes);
-    if n < 14 {
-        return false;
+    if !stored::is_filled(from, &mut bytes)? {
+        return Ok(false);
     }
     match header::parse(&bytes) {
-        Header::Numbers(length, room) => replay_case(length, room),
+        Header::Numbers(length, room) => replay_case(from, to, length, room),
         Header::IllFormed => {
-            stored::print_ill_formed();
-            false
+            stored::print_ill_formed(to)?;
+            Ok(false)
         }
     }
 }
 
-fn main() {
-    let mut left = MOST_CASES;
-    while 0 < left && replay_next() {
-        left -= 1;
+fn main(rt: HostRuntime) -> io::Result<()> {
+    let mut from = rt.stdin();
+    let mut to = io::writer(&rt);
+    for _ in 0..MOST_CASES {
+        if !replay_next(&mut from, &mut to)? {
+            break;
+        }
     }
+    Ok(())
 }

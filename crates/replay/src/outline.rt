@@ -1,27 +1,28 @@
 // The outline of a text: a row for each heading, with its anchor, and for each quoted line.
-ghost use Rattle.std.specs.Prelude.{◌≤◌, ◌<◌};
+ghost use Rattle.std.specs.Prelude.{◌≤◌, ◌<◌, IfOk};
 
 use anchor::AnchorByte;
 use heading::walk;
 use heading::walk::{LineKind, WalkState};
-use libc::STDOUT_FILENO;
+use std::io;
+use std::io::Write;
 use stored::print;
 use text::lines;
 
 // Writes a block that is full. Answers how many of its bytes are in use after that.
-fn write_full(block: &[u8; 64], used: usize) -> usize
+fn write_full(to: &mut impl Write, block: &[u8; 64], used: usize) -> io::Result<usize>
     requires { used ≤ 64 }
-    ensures { result < 64 }
+    ensures { IfOk result (λ n. n < 64) }
 {
     if used < 64 {
-        return used;
+        return Ok(used);
     }
-    io::write_all(STDOUT_FILENO, block);
-    0
+    to.write_all(block)?;
+    Ok(0)
 }
 
 // The anchor of a heading's text, in blocks: a call of `write` for each byte is slow.
-fn print_anchor(text: &[u8]) {
+fn print_anchor(to: &mut impl Write, text: &[u8]) -> io::Result<()> {
     let mut block = [0u8; 64];
     let mut used = 0;
     let mut c = anchor::start(text);
@@ -30,61 +31,70 @@ fn print_anchor(text: &[u8]) {
         match x {
             AnchorByte::Byte(b, d) => {
                 block[used] = b;
-                used = write_full(&block, used + 1);
+                used = write_full(to, &block, used + 1)?;
                 c = d;
             }
-            AnchorByte::End => {
-                io::write_all(STDOUT_FILENO, &block[..used]);
-                return;
-            }
+            AnchorByte::End => return to.write_all(&block[..used]),
         }
     }
 }
 
 // `quoted` and the line's number.
-fn print_quoted(number: usize) {
-    io::write_all(STDOUT_FILENO, b"quoted");
-    print::tabbed(number as u64);
-    io::write_all(STDOUT_FILENO, b"\n");
+fn print_quoted(to: &mut impl Write, number: usize) -> io::Result<()> {
+    to.write_all(b"quoted")?;
+    print::tabbed(to, number as u64)?;
+    to.write_all(b"\n")
 }
 
 // `heading`, the line's number, the level, where the text starts and ends in the line, and its anchor.
-fn print_heading(number: usize, level: usize, start: usize, end: usize, text: &[u8]) {
-    io::write_all(STDOUT_FILENO, b"heading");
-    print::tabbed(number as u64);
-    print::tabbed(level as u64);
-    print::tabbed(start as u64);
-    print::tabbed(end as u64);
-    io::write_all(STDOUT_FILENO, b"\t");
-    print_anchor(text);
-    io::write_all(STDOUT_FILENO, b"\n");
+fn print_heading(
+    to: &mut impl Write,
+    number: usize,
+    level: usize,
+    start: usize,
+    end: usize,
+    text: &[u8],
+) -> io::Result<()> {
+    to.write_all(b"heading")?;
+    print::tabbed(to, number as u64)?;
+    print::tabbed(to, level as u64)?;
+    print::tabbed(to, start as u64)?;
+    print::tabbed(to, end as u64)?;
+    to.write_all(b"\t")?;
+    print_anchor(to, text)?;
+    to.write_all(b"\n")
 }
 
 // A line's row, if it has one. Answers the state after the line.
-fn print_line(state: WalkState, number: usize, line: &[u8]) -> WalkState {
+fn print_line(
+    to: &mut impl Write,
+    state: WalkState,
+    number: usize,
+    line: &[u8],
+) -> io::Result<WalkState> {
     let w = walk::step(state, line);
     let kind = w.kind;
     match kind {
-        LineKind::Quoted => print_quoted(number),
+        LineKind::Quoted => print_quoted(to, number)?,
         LineKind::Heading { level, start, end } => {
-            print_heading(number, level, start, end, &line[start..end]);
+            print_heading(to, number, level, start, end, &line[start..end])?;
         }
         LineKind::Other => (),
     }
-    w.state
+    Ok(w.state)
 }
 
 // The rows of a text, in the order of its lines, which stand between LFs and count from 1.
-pub fn print(text: &[u8]) {
+pub fn print(to: &mut impl Write, text: &[u8]) -> io::Result<()> {
     let mut state = walk::begin();
     let mut number = 1;
     let mut a = 0;
     loop {
         let p = lines::piece(text, a);
         let e = p.end;
-        state = print_line(state, number, &text[a..e]);
+        state = print_line(to, state, number, &text[a..e])?;
         if p.last {
-            return;
+            return Ok(());
         }
         number += 1;
         a = e + 1;
