@@ -1,0 +1,16 @@
+-- `copy_out` meets its contract: the text lies within both buffers. Assumes nothing.
+use native.Mathlib.Omega.{arith}
+use mathlib.Core.Path.{sym, ◌∙◌}
+use lib.Seq.{length-take-le}
+use Rattle.give.proofs.GivenLaws.{copied-front}
+use Rattle.give.proofs.copy_out.Goals as goal
+
+pub slice_bounds-copy-end : goal.slice_bounds-copy-end
+slice_bounds-copy-end c = let h = rw c.in-Accepted.is at c.requires in sym (length-take-le c.in-Accepted.length c.args.work.now h.1)
+
+pub copy-requires : goal.copy-requires
+copy-requires c = let h = rw c.in-Accepted.is at c.requires in omega (arith, length-take-le c.in-Accepted.length c.args.work.now h.1)
+
+pub returns-in-Accepted : goal.returns-in-Accepted
+returns-in-Accepted c = let h = rw c.in-Accepted.is at c.requires in
+    rw c.in-Accepted.is (c.copy.ensures.0 ∙ copied-front c.in-Accepted.length c.args.work.now c.args.out.now h.1 h.0)
