@@ -20,22 +20,22 @@ pub member_at-m-requires : goal.member_at-m-requires
 member_at-m-requires c = omega (arith, c.requires.0.few)
 
 pub slice_bounds-equals-count : goal.slice_bounds-equals-count
-slice_bounds-equals-count c = (stands_at c.requires.0 c.loop-q.q (omega arith) c.member_at-m.ensures).lies.forward
+slice_bounds-equals-count c = omega (arith, (stands_at c.requires.0 c.loop-q.q (omega arith) c.member_at-m.ensures).lies.forward)
 
 pub slice_bounds-equals-start : goal.slice_bounds-equals-start
-slice_bounds-equals-start c = omega (arith, (stands_at c.requires.0 c.loop-q.q (omega arith) c.member_at-m.ensures).lies.forward)
+slice_bounds-equals-start c = let l = (stands_at c.requires.0 c.loop-q.q (omega arith) c.member_at-m.ensures).lies in omega (arith, l.forward, l.named)
 
 pub slice_bounds-equals-end : goal.slice_bounds-equals-end
-slice_bounds-equals-end c = omega (arith, (stands_at c.requires.0 c.loop-q.q (omega arith) c.member_at-m.ensures).lies.named)
+slice_bounds-equals-end c = let l = (stands_at c.requires.0 c.loop-q.q (omega arith) c.member_at-m.ensures).lies in omega (arith, l.forward, l.named)
 
 pub slice_bounds-equals-count-in-loop-q : goal.slice_bounds-equals-count-in-loop-q
-slice_bounds-equals-count-in-loop-q c = (stands_at c.requires.0 c.args.i (omega arith) c.member_at-mine.ensures).lies.forward
+slice_bounds-equals-count-in-loop-q c = omega (arith, (stands_at c.requires.0 c.args.i (omega arith) c.member_at-mine.ensures).lies.forward)
 
 pub slice_bounds-equals-start-in-loop-q : goal.slice_bounds-equals-start-in-loop-q
-slice_bounds-equals-start-in-loop-q c = omega (arith, (stands_at c.requires.0 c.args.i (omega arith) c.member_at-mine.ensures).lies.forward)
+slice_bounds-equals-start-in-loop-q c = let l = (stands_at c.requires.0 c.args.i (omega arith) c.member_at-mine.ensures).lies in omega (arith, l.forward, l.named)
 
 pub slice_bounds-equals-end-in-loop-q : goal.slice_bounds-equals-end-in-loop-q
-slice_bounds-equals-end-in-loop-q c = omega (arith, (stands_at c.requires.0 c.args.i (omega arith) c.member_at-mine.ensures).lies.named)
+slice_bounds-equals-end-in-loop-q c = let l = (stands_at c.requires.0 c.args.i (omega arith) c.member_at-mine.ensures).lies in omega (arith, l.forward, l.named)
 
 pub text_of-requires : goal.text_of-requires
 text_of-requires c = (stands_at c.requires.0 c.loop-q.q (omega arith) c.member_at-m.ensures).text
