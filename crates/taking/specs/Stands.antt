@@ -3,7 +3,7 @@ use Rattle.std.specs.Prelude.{ℕ}
 use Rattle.regions.specs.Hosts.{start_cursor}
 use Rattle.regions.specs.declared.host.HostCursor.{HostCursor}
 use Rattle.survey.specs.declared.Surveyed.{Surveyed}
-use Rattle.survey.specs.declared.Surveyed.TheVariants.{Wrong, NoRegion as Bare, Regions as Some}
+use Rattle.survey.specs.declared.Surveyed.TheVariants.{Wrong, NoRegion as Bare, Regions}
 use Rattle.filling.specs.declared.Filled.{Filled}
 use Rattle.filling.specs.declared.Filled.TheVariants.{Text, NoRegion, Refused}
 use Rattle.taking.specs.declared.Stand.{Stand}
@@ -13,7 +13,7 @@ use Rattle.taking.specs.declared.Stand.TheVariants.{On, Done as Ended}
 abbrev pub first_of : ℕ → Surveyed → Stand
 first_of n (Wrong x) = Ended (Refused x)
 first_of n Bare = Ended NoRegion
-first_of n Some = On start_cursor 0 n
+first_of n Regions = On start_cursor 0 n
 
 abbrev pub after_of : Filled → HostCursor → Stand
 after_of (Text n f) d = On d n f
