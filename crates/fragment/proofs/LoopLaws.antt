@@ -9,7 +9,7 @@ use Rattle.index.specs.Index.{File, file_of}
 use Rattle.walk.specs.Steps.{Judged, judge}
 use Rattle.regions.specs.Regions.{scanned}
 use Rattle.survey.specs.declared.Surveyed.{Surveyed}
-use Rattle.survey.specs.declared.Surveyed.TheVariants.{Wrong, NoRegion as Bare, Regions as Some}
+use Rattle.survey.specs.declared.Surveyed.TheVariants.{Wrong, NoRegion as Bare, Regions}
 use Rattle.survey.specs.Surveys.{survey_of}
 use Rattle.regions.specs.Hosts.{start_cursor, host_rest, HostAt}
 use Rattle.regions.specs.declared.host.HostCursor.{HostCursor}
@@ -66,7 +66,7 @@ module _ (S : List File) (top : List ℕ) (m : List Bool) (name s : List ℕ) (a
       at-survey : (y : Surveyed) → y ≡ survey_of (scanned (file_of at.number name s)) → Stands S top m name s at (length work) work (first_of at.used y)
       at-survey (Wrong x) q = record { kept = refl; same = fill_wrong at.allowance at.limit at.used S top m (file_of at.number name s) h x q; fits = tt }
       at-survey Bare q = record { kept = refl; same = fill_none at.allowance at.limit at.used S top m (file_of at.number name s) h q; fits = tt }
-      at-survey Some q = record {
+      at-survey Regions q = record {
         cursor = host-start s;
         fits = omega arith;
         kept = refl;
