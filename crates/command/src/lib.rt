@@ -6,46 +6,65 @@ ghost use Rattle.arguments.specs.Arguments.{Called};
 
 use answer::Answer;
 use arguments::{Arguments, Call};
-use libc::{STDERR_FILENO, STDOUT_FILENO};
 use notes::{Reading, buffers};
+use station::failed;
+use std::env::Env;
+use std::fs::Files;
+use std::io::{Print, Write};
 use text::bytes;
 
-const BOOK: i32 = 0;
+const BOOK: u8 = 0;
 
-const REFUSED: i32 = 1;
+const REFUSED: u8 = 1;
 
-const NO_CALL: i32 = 2;
+const NO_CALL: u8 = 2;
 
 // The size of the work buffer.
 const WORK: usize = 3_670_016;
 
 // Writes the book, so long at the front of a buffer, to standard output or to the file that an argument names.
-fn give(book: usize, out: &[u8], length: usize) -> i32 {
+fn give<R: Env + Files + Print>(
+    rt: &R,
+    to: &mut impl Write,
+    book: usize,
+    out: &[u8],
+    length: usize,
+) -> u8 {
     if out.len() < length {
         return NO_CALL;
     }
     let text = &out[..length];
     if book != 0 {
-        if save::save(book, text) {
+        if save::save(rt, to, book, text) {
             return BOOK;
         }
         return NO_CALL;
     }
-    if io::write_all(STDOUT_FILENO, text) {
-        return BOOK;
+    match rt.write_all(text) {
+        Ok(()) => BOOK,
+        Err(e) => {
+            let _ = failed::say_failed(to, b"standard output", e);
+            NO_CALL
+        }
     }
-    os::fail(b"standard output");
-    NO_CALL
 }
 
 // Makes the book and writes it, or says why there is none.
-fn make(call: Call, index: &[u8], contents: &[u8], list: &[u8], starts: &[usize; 65]) -> i32
+fn make<R: Env + Files + Print>(
+    rt: &R,
+    to: &mut impl Write,
+    call: Call,
+    index: &[u8],
+    contents: &[u8],
+    list: &[u8],
+    starts: &[usize; 65],
+) -> u8
     requires { Called call × (length list.now ≤ 65536) }
 {
     let mut out = buffers::text_buffer();
     let mut work = buffers::work_buffer();
-    let mut url = io::buffer();
-    let n = os::arg(call.url, &mut url);
+    let mut url = [0u8; 4096];
+    let n = rt.arg(call.url, &mut url).unwrap_or(0);
     let lines = bytes::count_byte(list, b'\n');
     let limit = station::largest_limit(WORK, call.notes, lines);
     let allowance = call.allowance;
@@ -60,28 +79,38 @@ fn make(call: Call, index: &[u8], contents: &[u8], list: &[u8], starts: &[usize;
         &mut work,
     );
     match a {
-        Answer::Accepted { length, files: _ } => give(call.book, &out, length),
+        Answer::Accepted { length, files: _ } => give(rt, to, call.book, &out, length),
         Answer::NoRegion => NO_CALL,
         Answer::Refused(_) => {
-            report::say_refusal(call.url, answer::numbers(a), starts, contents, list);
+            let _ = report::say_refusal(
+                rt,
+                to,
+                call.url,
+                answer::numbers(a),
+                starts,
+                contents,
+                list,
+            );
             REFUSED
         }
     }
 }
 
 // Reads the list and the notes, and makes the book of them.
-fn call_on(call: Call) -> i32
+fn call_on<R: Env + Files + Print>(rt: &R, to: &mut impl Write, call: Call) -> u8
     requires { Called call }
 {
-    let mut list = io::large_buffer();
+    let mut list = [0u8; 65536];
     let url = call.url;
-    let Reading::To(listed) = notes::read_argument(url + 1, &mut list, 0) else {
+    let Reading::To(listed) = notes::read_argument(rt, to, url + 1, &mut list, 0) else {
         return NO_CALL;
     };
     let mut index = buffers::index_buffer();
     let mut contents = buffers::text_buffer();
     let mut starts = [0usize; 65];
     let Reading::To(indexed) = notes::read_notes(
+        rt,
+        to,
         url + 2,
         call.notes,
         &mut index,
@@ -90,47 +119,43 @@ fn call_on(call: Call) -> i32
     ) else {
         return NO_CALL;
     };
-    make(call, &index[..indexed], &contents, &list[..listed], &starts)
+    make(
+        rt,
+        to,
+        call,
+        &index[..indexed],
+        &contents,
+        &list[..listed],
+        &starts,
+    )
 }
 
 // Whether the book can go where it is to go: to no file, or to one that is none of those read.
-fn can_give(call: Call) -> bool
+fn can_give(env: &impl Env, to: &mut impl Write, call: Call) -> bool
     requires { Called call }
 {
     if call.book == 0 {
         return true;
     }
-    save::can_save(call.book, call.url + 1, call.notes + 1)
+    save::can_save(env, to, call.book, call.url + 1, call.notes + 1)
 }
 
-// Runs stationbook on the program's arguments, and answers its exit status.
-pub fn run() -> i32 {
-    match arguments::read() {
+// Runs stationbook on the program's arguments, and answers its exit status. What is wrong is said on a writer, standard error.
+pub fn run<R: Env + Files + Print>(rt: &R, to: &mut impl Write) -> u8 {
+    match arguments::read(rt) {
         Arguments::Call(call) => {
-            if can_give(call) {
-                return call_on(call);
+            if can_give(rt, to, call) {
+                return call_on(rt, to, call);
             }
             NO_CALL
         }
         Arguments::Usage => {
-            io::write_all(
-                STDERR_FILENO,
-                b"usage: stationbook [-n ALLOWANCE] [-o BOOK] URL LIST NOTE...\n",
-            );
+            let _ = to.write_all(b"usage: stationbook [-n ALLOWANCE] [-o BOOK] URL LIST NOTE...\n");
             NO_CALL
         }
         Arguments::TooMany => {
-            io::write_all(
-                STDERR_FILENO,
-                b"stationbook: there are more than 64 notes\n",
-            );
+            let _ = to.write_all(b"stationbook: there are more than 64 notes\n");
             NO_CALL
         }
     }
-}
-
-// The same for C.
-#[unsafe(no_mangle)]
-pub extern "C" fn stationbook_run() -> i32 {
-    run()
 }
