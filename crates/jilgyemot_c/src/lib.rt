@@ -26,7 +26,9 @@ pub extern "C" fn jilgyemot_fill(
 )
     ensures { FillCall index.now contents.now name.now text.now limit allowance out.old work.old answer.new out.new work.new }
 {
-    jilgyemot::jilgyemot_fill(index, contents, name, text, limit, allowance, out, work, answer);
+    jilgyemot::jilgyemot_fill(
+        index, contents, name, text, limit, allowance, out, work, answer,
+    );
 }
 
 // An assembly of the members of a list: its text in the output, its answer as six numbers.
@@ -61,5 +63,7 @@ pub extern "C" fn jilgyemot_book(
 )
     ensures { BookCall index.now contents.now list.now url.now limit allowance out.old work.old answer.new out.new work.new }
 {
-    jilgyemot::jilgyemot_book(index, contents, list, url, limit, allowance, out, work, answer);
+    jilgyemot::jilgyemot_book(
+        index, contents, list, url, limit, allowance, out, work, answer,
+    );
 }
