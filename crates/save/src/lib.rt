@@ -19,7 +19,7 @@ fn path_of(name: &[u8]) -> io::Result<&str> {
         Ok(path) => Ok(path),
         Err(_) => Err(io::Error::new(
             ErrorKind::InvalidFilename,
-            "the name is not UTF-8: rename the file",
+            "the name is not UTF-8: give the book another",
         )),
     }
 }
