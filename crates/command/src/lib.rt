@@ -29,7 +29,9 @@ fn give<R: Env + Files + Print>(
     book: usize,
     out: &[u8],
     length: usize,
-) -> u8 {
+) -> u8
+    ensures { result ≤ 2 }
+{
     if out.len() < length {
         return NO_CALL;
     }
@@ -60,6 +62,7 @@ fn make<R: Env + Files + Print>(
     starts: &[usize; 65],
 ) -> u8
     requires { Called call × (length list.now ≤ 65536) }
+    ensures { result ≤ 2 }
 {
     let mut out = buffers::text_buffer();
     let mut work = buffers::work_buffer();
@@ -99,6 +102,7 @@ fn make<R: Env + Files + Print>(
 // Reads the list and the notes, and makes the book of them.
 fn call_on<R: Env + Files + Print>(rt: &R, to: &mut impl Write, call: Call) -> u8
     requires { Called call }
+    ensures { result ≤ 2 }
 {
     let mut list = [0u8; 65536];
     let url = call.url;
@@ -141,7 +145,9 @@ fn can_give(env: &impl Env, to: &mut impl Write, call: Call) -> bool
 }
 
 // Runs stationbook on the program's arguments, and answers its exit status. What is wrong is said on a writer, standard error.
-pub fn run<R: Env + Files + Print>(rt: &R, to: &mut impl Write) -> u8 {
+pub fn run<R: Env + Files + Print>(rt: &R, to: &mut impl Write) -> u8
+    ensures { result ≤ 2 }
+{
     match arguments::read(rt) {
         Arguments::Call(call) => {
             if can_give(rt, to, call) {
