@@ -4,6 +4,8 @@
 ghost use Rattle.std.specs.Prelude.{◌≤◌, length};
 ghost use Rattle.stored.specs.Case.{Small};
 
+use std::io;
+use std::io::{Read, Write};
 use stored::case;
 use stored::case::{Limits, NextCase, Starts};
 
@@ -11,7 +13,14 @@ use stored::case::{Limits, NextCase, Starts};
 const MOST_CASES: usize = 100_000;
 
 // Makes a book of what is handed in, as a C caller does, and prints the answer.
-fn book_given(given: &[u8], at: Starts, limits: Limits, out: &mut [u8], work: &mut [u8])
+fn book_given(
+    to: &mut impl Write,
+    given: &[u8],
+    at: Starts,
+    limits: Limits,
+    out: &mut [u8],
+    work: &mut [u8],
+) -> io::Result<()>
     requires { (at.contents ≤ at.third) × ((at.third ≤ at.fourth) × ((at.fourth ≤ length given.now) × (limits.allowance ≤ 999999))) }
 {
     let contents = at.contents;
@@ -29,42 +38,47 @@ fn book_given(given: &[u8], at: Starts, limits: Limits, out: &mut [u8], work: &m
         work,
         &mut numbers,
     );
-    case::print_numbers(numbers, out);
+    case::print_numbers(to, numbers, out)
 }
 
 // A case, with an output and a work buffer of zeros.
-fn replay_case(given: &[u8], at: Starts, limits: Limits)
+fn replay_case(to: &mut impl Write, given: &[u8], at: Starts, limits: Limits) -> io::Result<()>
     requires { Small at limits × (16384 ≤ length given.now) }
 {
     let end = at.end;
     let room = limits.out;
     let size = limits.work;
-    let mut out = io::large_buffer();
-    let mut work = io::large_buffer();
+    let mut out = [0u8; 65536];
+    let mut work = [0u8; 65536];
     book_given(
+        to,
         &given[..end],
         at,
         limits,
         &mut out[..room],
         &mut work[..size],
-    );
+    )
 }
 
 // Answers whether to go on: not at the input's end or after an ill-formed case.
-fn replay_next() -> bool {
+fn replay_next(from: &mut impl Read, to: &mut impl Write) -> io::Result<bool> {
     let mut given = case::given_buffer();
-    match case::read_case(&mut given) {
+    match case::read_case(from, to, &mut given)? {
         NextCase::Handed { at, limits } => {
-            replay_case(&given, at, limits);
-            true
+            replay_case(to, &given, at, limits)?;
+            Ok(true)
         }
-        NextCase::Nothing => false,
+        NextCase::Nothing => Ok(false),
     }
 }
 
-fn main() {
-    let mut left = MOST_CASES;
-    while 0 < left && replay_next() {
-        left -= 1;
+fn main(rt: HostRuntime) -> io::Result<()> {
+    let mut from = rt.stdin();
+    let mut to = io::writer(&rt);
+    for _ in 0..MOST_CASES {
+        if !replay_next(&mut from, &mut to)? {
+            break;
+        }
     }
+    Ok(())
 }
