@@ -82,8 +82,8 @@ last-lines : (st : WalkState) (b : TopLevel) (ls us : List (List ℕ))
 last-lines st b ls us = rw (kinds_append st ls us) (last-append b (kinds_from st ls) (kinds_from (states_after st ls) us))
 
 -- the walk at a cursor
-abbrev pub field_own : HostCursor → Own
-field_own c = record { state = c.state; above = c.above; top = NoHeading }
+abbrev pub own_at : HostCursor → Own
+own_at c = record { state = c.state; above = c.above; top = NoHeading }
 
 -- the closer behind which a cursor stands
 closer_starts : {s : List ℕ} {c : HostCursor} → CloserAt s c → Starts s (c.before + 1) (c.from + 1)
@@ -137,7 +137,7 @@ target-top peer (Level n) x y h = refl
 target-top peer NoHeading x y h = rw (h refl)
 
 -- the next region behind a cursor
-module _ {s : List ℕ} {c : HostCursor} (a : HostAt s c) {g : Region} {d : Cursor} {v : Own} (b : OwnBefore s (cursor_of c) (field_own c) g d v) where
+module _ {s : List ℕ} {c : HostCursor} (a : HostAt s c) {g : Region} {d : Cursor} {v : Own} (b : OwnBefore s (cursor_of c) (own_at c) g d v) where
   -- the own lines before it, and how many lines it has
   abbrev ls : List (List ℕ)
   ls = lines_before s (cursor_of c) g.opener.line
@@ -154,7 +154,7 @@ module _ {s : List ℕ} {c : HostCursor} (a : HostAt s c) {g : Region} {d : Curs
 
   -- the walk at the opener
   v-is : v ≡ record { state = states_after c.state ls; above = last_level c.above (kinds_from c.state ls); top = shallowest_of NoHeading (kinds_from c.state ls) }
-  v-is = b.own ∙ own_is (field_own c) ls
+  v-is = b.own ∙ own_is (own_at c) ls
 
   v-state : states_after walk_begin (a.passed ++ ls) ≡ v.state
   v-state = states_append walk_begin a.passed ls ∙ ap (λ (st : WalkState). states_after st ls) a.state ∙ ap (λ (w : Own). w.state) (sym v-is)
@@ -205,7 +205,7 @@ module _ {s : List ℕ} {c : HostCursor} (a : HostAt s c) {g : Region} {d : Curs
       let r : List (List ℕ) = blanked_at s (cursor_of c) in
       let z : shallowest_of NoHeading (kinds_from walk_begin a.passed) ≡ NoHeading =
       (last_nothing NoHeading (kinds_from walk_begin a.passed) (a.above ∙ none_before q)).1 in
-      ap (λ (w : Own). w.top) ((own-next a.line b).1.1 ∙ own_is (field_own c) r)
+      ap (λ (w : Own). w.top) ((own-next a.line b).1.1 ∙ own_is (own_at c) r)
       ∙ sym
       (ap (λ (bs : List (List ℕ)). shallowest_of NoHeading (kinds_from walk_begin bs)) a.blanked
       ∙ ap (shallowest_of NoHeading) (kinds_append walk_begin a.passed r)
