@@ -147,6 +147,26 @@ fn put_record(
     record::put_record(index, at, b"", start, size)
 }
 
+// Reads the note that an argument names. One whose name is not UTF-8 can't be opened, and is read as an empty one: its record has no name,
+// which refusal 1 tells.
+fn read_note<R: Env + Files>(
+    rt: &R,
+    to: &mut impl Write,
+    i: usize,
+    buf: &mut [u8],
+    at: usize,
+) -> Reading
+    requires { at ≤ length buf.old }
+    ensures { Ends at (length buf.old) result }
+{
+    let mut name = [0u8; 4096];
+    let n = rt.arg(i, &mut name).unwrap_or(0);
+    if str::from_utf8(&name[..n]).is_err() {
+        return Reading::To(at);
+    }
+    read_argument(rt, to, i, buf, at)
+}
+
 // Reads the notes that so many arguments from one on name, one behind the other, and makes their index. Answers where the index ends, and
 // where each note ends in the contents, behind a 0 for the first one's start.
 pub fn read_notes<R: Env + Files>(
@@ -165,7 +185,7 @@ pub fn read_notes<R: Env + Files>(
     let mut end = 0;
     let mut k = 0;
     while k < count {
-        let Reading::To(e) = read_argument(rt, to, first + k, contents, end) else {
+        let Reading::To(e) = read_note(rt, to, first + k, contents, end) else {
             return Reading::Unreadable;
         };
         indexed = put_record(rt, first + k, index, indexed, end, e - end);
