@@ -7,6 +7,7 @@ It renames what crates/*/specs and crates/*/proofs/*.antt declare, and the names
 lines of .rt files, in must-fail edits, and in code spans of the documents. Functions of src/, exported names, strings and outputs keep theirs.
 A dash stays between two names of definitions; any other dash becomes `_`. Where a clause's import would have the name of a parameter in the file, which
 would hide it, it is imported under another name, with `_of` behind. It prints where two names of one file would fall together.
+port.py passes over a folder named target: crates/target was turned under another name (docs/PORT.md).
 """
 
 import collections
@@ -94,6 +95,16 @@ def renamed(text, turned):
     return WORD.sub(turn, text)
 
 
+def of_library(text, own):
+    """The names that a file takes from a library: they stay."""
+    found = set()
+    for path, group in re.findall(r"^(?:pub )?use ([^\s{]+?)\.\{([^}]*)\}", text, re.M):
+        parts = path.split(".")
+        if parts[0] != "Rattle" or parts[1] not in own:
+            found |= {it.strip().split(" as ")[0] for it in group.split(",")}
+    return found
+
+
 def antt(text, turned):
     out = []
     for line in text.split("\n"):
@@ -172,9 +183,11 @@ def main(old):
         for new, olds in clashes(p, text, turned):
             print(f"together: {p}: {sorted(olds)} -> {new}")
             bad += 1
+    own = {p.split("/")[1] for p in glob.glob("crates/*/src")}
     for p in files("crates/*/specs/**/*.antt", "crates/*/proofs/**/*.antt"):
         text = read(p)
-        write(p, antt(text, turned))
+        stay = of_library(text, own)
+        write(p, antt(text, {a: b for a, b in turned.items() if a not in stay}))
     for p in files("crates/*/src/**/*.rt"):
         write(p, rt(read(p), turned, p))
     # a folder specs/ may have no file Contracts any more
