@@ -1,12 +1,10 @@
 -- Document 01, "Assembly and book": "Anchor: `slug`": the anchor of a heading's text, as the Rust's `slug` makes it, but for runs of underscores: document 02, Req 01.
-use Rattle.std.specs.Prelude.{ℕ, suc, ◌+◌, ◌*◌, ◌%◌, ◌≤◌, ◌<◌, Bool, true, false, cond, not, ◌&&◌, ◌||◌, List, [], ◌∷◌, length, get_or, eqb, leb, ◌≡◌}
+use Rattle.std.specs.Prelude.{ℕ, suc, ◌+◌, ◌*◌, ◌%◌, ◌≤◌, ◌<◌, Bool, true, false, cond, not, ◌&&◌, ◌||◌, List, [], ◌∷◌, length, get_or, eqb, leb, ◌≡◌, Option, Some, None}
 use Rattle.text.specs.Bytes.{part}
 use Rattle.text.specs.Ascii.{is_digit}
 use Rattle.text.specs.Space.{is_space, trim}
 use Rattle.text.specs.Ascii.{lower}
 use Rattle.anchor.specs.declared.AnchorCursor.{AnchorCursor}
-use Rattle.anchor.specs.declared.AnchorByte.{AnchorByte}
-use Rattle.anchor.specs.declared.AnchorByte.TheVariants.{Byte, End}
 use Rattle.anchor.specs.declared.Markup.{Markup}
 use Rattle.anchor.specs.declared.Markup.TheVariants.{Written, Bracket, Behind, Target}
 use Rattle.anchor.specs.declared.TextByte.{TextByte}
@@ -134,9 +132,9 @@ ReadByte t c r =
     × ((r.rest.at ≡ c.at + 1) × ((r.rest.end ≡ c.end) × CursorWithin r.rest t))
 
 -- a byte of the anchor and what is left after it, or nothing left
-abbrev pub NextByte : List ℕ → AnchorCursor → AnchorByte → Type 0
-NextByte t c (Byte b d) = (anchor_from c t ≡ b ∷ anchor_from d t) × ((c.at < d.at) × CursorWithin d t)
-NextByte t c End = anchor_from c t ≡ []
+abbrev pub NextByte : List ℕ → AnchorCursor → Option (ℕ × AnchorCursor) → Type 0
+NextByte t c (Some (b, d)) = (anchor_from c t ≡ b ∷ anchor_from d t) × ((c.at < d.at) × CursorWithin d t)
+NextByte t c None = anchor_from c t ≡ []
 
 -- whether a byte is text and no space byte; an underscore that stays never stands at an end of the text
 abbrev pub is_seen : Markup → ℕ → Bool

@@ -31,12 +31,6 @@ pub struct AnchorCursor {
     pub stays: bool,
 }
 
-#[derive(Clone, Copy)]
-pub enum AnchorByte {
-    Byte(u8, AnchorCursor),
-    End,
-}
-
 // A byte of the text that was read: whether it is text and no markup, and what is left.
 #[derive(Clone, Copy)]
 struct TextByte {
@@ -244,7 +238,7 @@ fn read(text: &[u8], from: AnchorCursor) -> TextByte
 }
 
 // The next byte of an anchor.
-pub fn next(text: &[u8], from: AnchorCursor) -> AnchorByte
+pub fn next(text: &[u8], from: AnchorCursor) -> Option<(u8, AnchorCursor)>
     requires { CursorWithin from text.now }
     ensures { NextByte text.now from result }
 {
@@ -256,14 +250,14 @@ pub fn next(text: &[u8], from: AnchorCursor) -> AnchorByte
         c = r.rest;
         if r.shown {
             if is_kept(b) {
-                return AnchorByte::Byte(ascii::lower(b), c);
+                return Some((ascii::lower(b), c));
             }
             if b == 0x20 {
-                return AnchorByte::Byte(b'-', c);
+                return Some((b'-', c));
             }
         }
     }
-    AnchorByte::End
+    None
 }
 
 // Whether two heading texts have the same anchor.
@@ -276,23 +270,23 @@ pub fn same_anchor(s: &[u8], t: &[u8]) -> bool
         let x = next(s, c);
         let y = next(t, d);
         match x {
-            AnchorByte::Byte(a, c2) => match y {
-                AnchorByte::Byte(b, d2) => {
+            Some((a, c2)) => match y {
+                Some((b, d2)) => {
                     if a != b {
                         return false;
                     }
                     c = c2;
                     d = d2;
                 }
-                AnchorByte::End => {
+                None => {
                     return false;
                 }
             },
-            AnchorByte::End => match y {
-                AnchorByte::Byte(_, _) => {
+            None => match y {
+                Some((_, _)) => {
                     return false;
                 }
-                AnchorByte::End => {
+                None => {
                     return true;
                 }
             },

@@ -1,10 +1,10 @@
 -- Document 01's answers as numbers: acceptance, "no region", and the table of refusals with each refusal's place and second place.
-use Rattle.std.specs.Prelude.{ℕ, List, [], ◌∷◌}
+use Rattle.std.specs.Prelude.{ℕ, List, [], ◌∷◌, Result, Ok, Err}
 use Rattle.answer.specs.declared.Place.{Place}
 use Rattle.answer.specs.declared.Refusal.{Refusal}
 use Rattle.answer.specs.declared.Refusal.TheVariants.{IndexLine, TooManyRecords, PastContents, NameTwice, WideByte, NameForm, ListForm, Sizes, NestedRegion, FragmentMarker, UnclosedRegion, PeerWithoutHeading, OnChain, Absent, Allowance, HeadingLevel, TextLimit, NoTitle, SharedAnchor}
 use Rattle.answer.specs.declared.Answer.{Answer}
-use Rattle.answer.specs.declared.Answer.TheVariants.{Accepted, NoRegion, Refused}
+use Rattle.answer.specs.declared.Answer.TheVariants.{Accepted, NoRegion}
 
 -- "Place: file and line. File is the record's number from 1; it is 0 for a host handed in, the index or the list. Lines count from 1; line 0 where there is none."
 abbrev pub place : ℕ → ℕ → Place
@@ -81,7 +81,7 @@ abbrev pub refusal_numbers : ℕ → Place → Place → List ℕ
 refusal_numbers n p q = 2 ∷ n ∷ p.file ∷ p.line ∷ q.file ∷ q.line ∷ []
 
 -- "Acceptance gives length and files taken in"; "`No region` gives nothing more"
-abbrev pub numbers : Answer → List ℕ
-numbers (Accepted n f) = 0 ∷ n ∷ f ∷ 0 ∷ 0 ∷ 0 ∷ []
-numbers NoRegion = 1 ∷ 0 ∷ 0 ∷ 0 ∷ 0 ∷ 0 ∷ []
-numbers (Refused r) = refusal_numbers (number r) (place_of r) (second r)
+abbrev pub numbers : Result Answer Refusal → List ℕ
+numbers (Ok (Accepted n f)) = 0 ∷ n ∷ f ∷ 0 ∷ 0 ∷ 0 ∷ []
+numbers (Ok NoRegion) = 1 ∷ 0 ∷ 0 ∷ 0 ∷ 0 ∷ 0 ∷ []
+numbers (Err r) = refusal_numbers (number r) (place_of r) (second r)

@@ -39,7 +39,6 @@ pub enum Refusal {
 pub enum Answer {
     Accepted { length: usize, files: usize },
     NoRegion,
-    Refused(Refusal),
 }
 
 // Its number in the table.
@@ -106,13 +105,13 @@ fn second(refusal: Refusal) -> Place
 }
 
 // The answer as six numbers: 0, length, files taken in; 1; or 2, number, file, line, second file, second line.
-pub fn numbers(answer: Answer) -> [u64; 6]
+pub fn numbers(answer: Result<Answer, Refusal>) -> [u64; 6]
     ensures { result ≡ numbers_of answer }
 {
     match answer {
-        Answer::Accepted { length, files } => [0, length as u64, files as u64, 0, 0, 0],
-        Answer::NoRegion => [1, 0, 0, 0, 0, 0],
-        Answer::Refused(refusal) => {
+        Ok(Answer::Accepted { length, files }) => [0, length as u64, files as u64, 0, 0, 0],
+        Ok(Answer::NoRegion) => [1, 0, 0, 0, 0, 0],
+        Err(refusal) => {
             let at = place_of(refusal);
             let other = second(refusal);
             [

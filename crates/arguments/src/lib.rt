@@ -5,7 +5,6 @@ ghost use Rattle.std.specs.Prelude.{◌≤◌};
 ghost use Rattle.arguments.specs.Arguments.{Read};
 
 use buffer::decimal;
-use buffer::decimal::Number;
 use std::env::{Env, FillError};
 use text::pattern;
 
@@ -70,19 +69,19 @@ fn word_at(env: &impl Env, i: usize) -> Word {
 }
 
 // The allowance that an argument says: a 32-bit number.
-fn allowance_at(env: &impl Env, i: usize) -> Number {
+fn allowance_at(env: &impl Env, i: usize) -> Option<usize> {
     let mut word = [0u8; 10];
     let n = env.arg(i, &mut word).unwrap_or(0);
     if n == 0 {
-        return Number::NoNumber;
+        return None;
     }
-    let Number::Is(allowance) = decimal::parse(&word[..n]) else {
-        return Number::NoNumber;
+    let Some(allowance) = decimal::parse(&word[..n]) else {
+        return None;
     };
     if MOST_ALLOWANCE < allowance {
-        return Number::NoNumber;
+        return None;
     }
-    Number::Is(allowance)
+    Some(allowance)
 }
 
 // The call that the URL is this argument of.
@@ -119,7 +118,7 @@ pub fn read(env: &impl Env) -> Arguments
     while url < 4 {
         match word_at(env, url) {
             Word::Allowance => {
-                let Number::Is(n) = allowance_at(env, url + 1) else {
+                let Some(n) = allowance_at(env, url + 1) else {
                     return Arguments::Usage;
                 };
                 allowance = n;

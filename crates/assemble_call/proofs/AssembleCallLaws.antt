@@ -1,4 +1,5 @@
 -- Laws of the call assemble: its answer by what was assembled, and what `assembly::assemble` asks for once the checks pass. Assumes nothing.
+use Rattle.std.specs.Prelude.{Result, Ok, Err}
 use Prim.Native.Nat.{ℕ, suc, ◌+◌, ◌*◌, ◌≤◌}
 use native.Mathlib.Nat.{suc-mul}
 use native.Mathlib.Omega.{arith}
@@ -8,7 +9,6 @@ use lib.ListN.{length}
 use Rattle.index.specs.Index.{File, records, files}
 use Rattle.fileset.specs.Members.{names, members}
 use Rattle.fileset.specs.Check.{book_checked}
-use Rattle.fileset.specs.declared.check.Checked.TheVariants.{Passed, Refused as Stopped}
 use Rattle.fileset.proofs.PassedLaws.{book_fit}
 use Rattle.walk.specs.Steps.{judge}
 use Rattle.walk.specs.Outcome.{Outcome, refusal, outcome}
@@ -21,7 +21,7 @@ use Rattle.give.specs.Given.{Fits}
 use Rattle.give.proofs.GivenLaws.{fits_more}
 
 -- once the checks pass
-module _ (index contents list url : List ℕ) (limit out work : ℕ) (p : book_checked index contents list url limit out work ≡ Passed) where
+module _ (index contents list url : List ℕ) (limit out work : ℕ) (p : book_checked index contents list url limit out work ≡ (Ok tt)) where
   pub assemble-room : (1 ≤ limit) × (limit + limit ≤ work)
   assemble-room =
       let f = book_fit index contents list url limit out work p in
@@ -30,7 +30,7 @@ module _ (index contents list url : List ℕ) (limit out work : ℕ) (p : book_c
       let h : suc (suc n) * limit ≤ work = rw e at f.1.1 in
       (f.0, omega (arith, suc-mul (suc n) limit, suc-mul n limit))
 
-  pub assemble_held : (a : Answer) → Fits a limit limit → Fits a out work
+  pub assemble_held : (a : Result Answer Refusal) → Fits a limit limit → Fits a out work
   assemble_held a h = fits_more a limit out work (book_fit index contents list url limit out work p).1.0 (omega (arith, assemble-room.1)) h
 
   pub assemble-passed : {o : Outcome} {hs : List File} → hs ≡ members_of (files index contents) (members (records index) list)
@@ -38,7 +38,7 @@ module _ (index contents list url : List ℕ) (limit out work : ℕ) (p : book_c
   unfolding assemble_outcome
   assemble-passed e h = rw (p, ← e) h
 
-pub assemble-stopped : (index contents list url : List ℕ) (limit out work : ℕ) {x : Refusal} → Stopped x ≡ book_checked index contents list url limit out work
+pub assemble-stopped : (index contents list url : List ℕ) (limit out work : ℕ) {x : Refusal} → Err x ≡ book_checked index contents list url limit out work
     → refusal x ≡ assemble_outcome index contents list url limit out work
 unfolding assemble_outcome
 assemble-stopped index contents list url limit out work e = rw (← e)

@@ -5,10 +5,9 @@ ghost use Rattle.std.specs.Prelude.{◌≡◌, length};
 ghost use Rattle.book.specs.Calls.{assemble_outcome, answer_of, output_after, work_after};
 ghost use Rattle.give.specs.Given.{read_answer, Fits};
 
-use answer::Answer;
+use answer::{Answer, Refusal};
 use fileset::check;
-use fileset::check::{Checked, Sizes};
-use joining::Assembled;
+use fileset::check::Sizes;
 
 // Checks the input, and assembles the members at the front of the work buffer. The table of anchors stands behind them. An assembly takes no file in.
 fn run(
@@ -18,7 +17,7 @@ fn run(
     url: &[u8],
     sizes: Sizes,
     work: &mut [u8],
-) -> Answer
+) -> Result<Answer, Refusal>
     requires { sizes.work ≡ length work.old }
     ensures work_after { read_answer result work.new ≡ assemble_outcome index.now contents.now list.now url.now sizes.limit sizes.output sizes.work }
     ensures fits { Fits result sizes.output sizes.work }
@@ -26,8 +25,8 @@ fn run(
     let mut rows = [0usize; 256];
     let mut lines = [0usize; 64];
     match check::check_book(index, contents, list, url, sizes, &mut rows, &mut lines) {
-        Checked::Refused(refusal) => Answer::Refused(refusal),
-        Checked::Passed => {
+        Err(refusal) => Err(refusal),
+        Ok(()) => {
             let count = fileset::members::line_count(list);
             let mut set = [0usize; 704];
             listed::put_files(&rows, &lines, count, &mut set);
@@ -50,7 +49,7 @@ pub fn assemble(
     limit: usize,
     out: &mut [u8],
     work: &mut [u8],
-) -> Answer
+) -> Result<Answer, Refusal>
     ensures value { result ≡ answer_of (assemble_outcome index.now contents.now list.now url.now limit (length out.old) (length work.old)) }
     ensures out_after { out.new ≡ output_after (assemble_outcome index.now contents.now list.now url.now limit (length out.old) (length work.old)) out.old }
     ensures work_after { work.new ≡ work_after work.old }

@@ -1,4 +1,5 @@
 -- An emitted member has a line, and its last line is not empty: so `join_lines`, which asks whether lines stand before, joins as the Rust does, which asks whether a member does. Assumes nothing.
+use Rattle.std.specs.Prelude.{Option, Some, None}
 use Prim.Native.Nat.{ℕ, zero, suc, ◌<◌}
 use native.Mathlib.Omega.{arith}
 use mathlib.Core.Path.{◌≡◌, refl}
@@ -16,8 +17,6 @@ use Rattle.text.specs.Lines.{pieces}
 use Rattle.text.specs.Space.{lead, is_blank}
 use Rattle.heading.specs.Level.{moved_to}
 use Rattle.heading.specs.Walk.{walk_begin, step_after}
-use Rattle.heading.specs.declared.level.Moved.{Moved}
-use Rattle.heading.specs.declared.level.Moved.TheVariants.{To, Past}
 use Rattle.heading.specs.declared.walk.LineKind.{LineKind}
 use Rattle.heading.specs.declared.walk.LineKind.TheVariants.{Quoted, Heading, Other}
 use Rattle.heading.specs.declared.walk.WalkState.{WalkState}
@@ -104,9 +103,9 @@ unfolding relink
 relink-some f [] h = h
 relink-some f (x ∷ l) h = omega arith
 
-level-some : (y : Moved) (s l : List ℕ) → 0 < length l → 0 < length (at_level y s l)
-level-some (To n) s l h = omega (arith, length-append (replicate n 0x23) (0x20 ∷ s))
-level-some Past s l h = h
+level-some : (y : Option ℕ) (s l : List ℕ) → 0 < length l → 0 < length (at_level y s l)
+level-some (Some n) s l h = omega (arith, length-append (replicate n 0x23) (0x20 ∷ s))
+level-some None s l h = h
 
 line-some : (f : List ℕ → List ℕ) (z : ℤ) (k : LineKind) (l : List ℕ) → 0 < length l → 0 < length (rewrite_line f k (moved_line z (record { kind = k; bytes = l })))
 line-some f z Quoted l h = h

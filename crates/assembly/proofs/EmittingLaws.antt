@@ -1,4 +1,5 @@
 -- Laws of the loop that emits members one behind the other. Assumes nothing.
+use Rattle.std.specs.Prelude.{Option, Result, Ok, Err}
 use Prim.Native.Nat.{ℕ, suc, ◌+◌, ◌-◌, ◌≤◌, ◌<◌}
 use native.Mathlib.Nat.{sub-zero}
 use native.Mathlib.Omega.{arith}
@@ -11,7 +12,6 @@ use Rattle.walk.specs.Outcome.{outcome}
 use Rattle.walk.specs.Parts.{Part}
 use Rattle.walk.specs.Steps.{Steps, judge}
 use Rattle.put.specs.Put.{Wrote}
-use Rattle.put.specs.declared.Put.{Put}
 use Rattle.text.specs.Lines.{LF}
 use Rattle.member.specs.Member.{Prepared}
 use Rattle.members.specs.Members.{member_at, prepared_in, prepared_from}
@@ -19,8 +19,6 @@ use Rattle.members.specs.declared.Member.{Member}
 use Rattle.target.specs.Titles.{title_named}
 use Rattle.assembled.specs.Assemble.{assemble_prepared}
 use Rattle.emitted.specs.Emit.{emit}
-use Rattle.joining.specs.declared.Assembled.{Assembled}
-use Rattle.joining.specs.declared.Assembled.TheVariants.{Text, Refused}
 use Rattle.joining.specs.Joining.{CanEmit, emit_in, put_answer, Running, Added, AddedBehind}
 use Rattle.assembly.specs.Parts.{read_assembled}
 use Rattle.joining.proofs.StandLaws.{emit_on, members_on, member_on}
@@ -64,7 +62,7 @@ module _ {index contents url set : List ℕ} {n limit : ℕ} {w₀ w : List ℕ}
     run-here = rw member-left at e.run
 
     module _ (v : List ℕ) (l : length v ≡ length w) where
-      turn : (r : Assembled) → AddedBehind limit (emit_in index contents w url set n) (prepared_in index contents w (member_at set i)) i (take at w) w v r
+      turn : (r : Result ℕ Refusal) → AddedBehind limit (emit_in index contents w url set n) (prepared_in index contents w (member_at set i)) i (take at w) w v r
           → Added limit f whole (member_at set i).file (prepared_from index contents w₀ set (i + 1) (n - (i + 1))) (i + 1) w v r
       turn r a =
           let b = subst (λ (ms : List Prepared). AddedBehind limit (emit (title_named ms) url) (prepared_in index contents w (member_at set i)) i (take at w) w v r) (members_on able w e.behind) a in
@@ -72,18 +70,18 @@ module _ {index contents url set : List ℕ} {n limit : ℕ} {w₀ w : List ℕ}
           d whole file (prepared_from index contents w₀ set (i + 1) (n - (i + 1))) run-here
 
       pub emitting_next : (m : Member) → m ≡ member_at set i → (j : ℕ)
-          → AddedBehind limit (emit_in index contents w url set n) (prepared_in index contents w (member_at set i)) i (take at w) w v (Text j) → Emitting index contents url set n limit w₀ v j m.file (i + 1)
+          → AddedBehind limit (emit_in index contents w url set n) (prepared_in index contents w (member_at set i)) i (take at w) w v (Ok j) → Emitting index contents url set n limit w₀ v j m.file (i + 1)
       emitting_next m q j a =
-          let t = turn (Text j) a in
+          let t = turn (Ok j) a in
           subst (λ (x : Member). Emitting index contents url set n limit w₀ v j x.file (i + 1)) (sym q)
           (record { long = l ∙ e.long; behind = t.behind ∙ e.behind; below = t.below; up_to = omega arith; run = t.next })
 
-      pub emitting_stops : (x : Refusal) → AddedBehind limit (emit_in index contents w url set n) (prepared_in index contents w (member_at set i)) i (take at w) w v (Refused x)
-          → (B k : ℕ) → read_assembled k (Refused x) v ≡ outcome (judge B limit k whole)
-      emitting_stops x a B k = ap outcome (sym (turn (Refused x) a B k))
+      pub emitting_stops : (x : Refusal) → AddedBehind limit (emit_in index contents w url set n) (prepared_in index contents w (member_at set i)) i (take at w) w v (Err x)
+          → (B k : ℕ) → read_assembled k (Err x) v ≡ outcome (judge B limit k whole)
+      emitting_stops x a B k = ap outcome (sym (turn (Err x) a B k))
 
   -- the last LF
-  pub emitting_last : n ≤ i → (v : List ℕ) (y : Put) → Wrote (record { at = at; limit = limit }) (LF ∷ []) w v y
+  pub emitting_last : n ≤ i → (v : List ℕ) (y : Option ℕ) → Wrote (record { at = at; limit = limit }) (LF ∷ []) w v y
       → (B k : ℕ) → read_assembled k (put_answer file y) v ≡ outcome (judge B limit k (assemble_prepared url (prepared_from index contents w₀ set 0 n)))
   unfolding prepared_from
   emitting_last h v y p =

@@ -10,10 +10,7 @@ ghost use Rattle.joining.specs.Joining.{CanEmit};
 ghost use Rattle.assembly.specs.Parts.{read_assembled, AssembledWithin};
 
 use answer::Refusal;
-use joining::Assembled;
-use preparation::Ready;
 use put::Room;
-use shared::Shared;
 
 // All members one behind the other, then the last LF, with 17 at the last member.
 fn emit_all(
@@ -24,7 +21,7 @@ fn emit_all(
     count: usize,
     limit: usize,
     work: &mut [u8],
-) -> Assembled
+) -> Result<usize, Refusal>
     requires { CanEmit index.now contents.now set.now count limit work.old }
     ensures by_index { (B n : ℕ) → read_assembled n result work.new ≡ outcome (judge B limit n (assemble_prepared url.now (prepared_from index.now contents.now work.old set.now 0 count))) }
     ensures assembled_within { AssembledWithin result limit }
@@ -35,11 +32,11 @@ fn emit_all(
     while i < count {
         let room = Room { at, limit };
         match joining::emit(index, contents, url, set, count, i, room, work) {
-            Assembled::Text(len) => {
+            Ok(len) => {
                 at = len;
             }
-            Assembled::Refused(refusal) => {
-                return Assembled::Refused(refusal);
+            Err(refusal) => {
+                return Err(refusal);
             }
         }
         let m = members::member_at(set, i);
@@ -73,21 +70,19 @@ pub fn assemble(
     limit: usize,
     table: usize,
     work: &mut [u8],
-) -> Assembled
+) -> Result<usize, Refusal>
     requires { AllLie index.now (length contents.now) limit table set.old count × ((limit ≤ table) × ((1 ≤ limit) × (table + limit ≤ length work.old))) }
     ensures by_index { (B n : ℕ) → read_assembled n result work.new ≡ outcome (judge B limit n (assemble_of url.now (files_from index.now contents.now work.old set.old 0 count))) }
     ensures assembled_within { AssembledWithin result limit }
 {
     match preparation::prepare_all(contents, work, set, count) {
-        Ready::All => {
+        Ok(()) => {
             let end = table_end(table, limit, contents.len(), work.len());
             match shared::compare(index, contents, set, count, table, end, work) {
-                Shared::Nowhere => emit_all(index, contents, url, set, count, limit, work),
-                Shared::At(first, second) => {
-                    Assembled::Refused(Refusal::SharedAnchor(first, second))
-                }
+                None => emit_all(index, contents, url, set, count, limit, work),
+                Some((first, second)) => { Err(Refusal::SharedAnchor(first, second)) }
             }
         }
-        Ready::Refused(refusal) => Assembled::Refused(refusal),
+        Err(refusal) => Err(refusal),
     }
 }

@@ -1,11 +1,11 @@
 -- Demand 3, proved: `specs/Demand.antt` has what it says. Assumes nothing.
+use Rattle.std.specs.Prelude.{Ok}
 use Prim.Native.Nat.{ℕ}
 use native.Mathlib.Omega.{arith}
 use mathlib.Core.Path.{◌≡◌, refl, sym, ap, ◌∙◌}
 use mathlib.Core.List.{List}
 use Rattle.answer.specs.declared.Refusal.{Refusal}
 use Rattle.fileset.specs.Check.{book_checked}
-use Rattle.fileset.specs.declared.check.Checked.TheVariants.{Passed}
 use Rattle.fileset.proofs.PassedLaws.{book-few}
 use Rattle.walk.specs.Steps.{Judged, given, refused, judge, judged_number}
 use Rattle.chains.proofs.Paths.{counts_chains}
@@ -32,7 +32,7 @@ module _ (index contents list url : List ℕ) where
   abbrev judged : ℕ → ℕ → Judged (List ℕ)
   judged L B = judge B L 0 (book (file_set index contents) (listed index list) url)
 
-  walked : (L B out work : ℕ) → book_checked index contents list url L out work ≡ Passed → book_outcome index contents list url L B out work ≡ outcome (judged L B)
+  walked : (L B out work : ℕ) → book_checked index contents list url L out work ≡ (Ok tt) → book_outcome index contents list url L B out work ≡ outcome (judged L B)
   unfolding book_outcome
   walked L B out work e = rw e
 

@@ -1,4 +1,5 @@
 -- Once nothing is refused before the walk, the members are the files that the list names. Assumes nothing.
+use Rattle.std.specs.Prelude.{Option, Some, None, Ok}
 use Prim.Native.Nat.{ℕ, ◌+◌, ◌<◌}
 use native.Mathlib.Omega.{arith}
 use mathlib.Core.Path.{◌≡◌, refl, ◌∙◌}
@@ -6,12 +7,9 @@ use mathlib.Core.Bool.{cond}
 use mathlib.Core.List.{List, [], ◌∷◌, map}
 use lib.ListN.{length}
 use Rattle.text.specs.Pattern.{is_at}
-use Rattle.text.specs.declared.pattern.Found.{Found}
-use Rattle.text.specs.declared.pattern.Found.TheVariants.{At, Nothing}
 use Rattle.index.specs.Index.{Record, files_from, records, files, find_record}
 use Rattle.fileset.specs.Members.{names, record_found, members_from, members, absent_from}
 use Rattle.fileset.specs.Check.{book_checked}
-use Rattle.fileset.specs.declared.check.Checked.TheVariants.{Passed}
 use Rattle.fileset.proofs.PassedLaws.{book-named}
 use Rattle.walk.proofs.HoldLaws.{Each}
 use Rattle.chains.proofs.GrowLaws.{find-files, find-within, find-name}
@@ -23,13 +21,13 @@ unfolding absent_from members_from
 listed-names contents rs n [] h e = refl
 listed-names contents rs n (l ∷ ls) h e = go (find_record l rs) refl e (λ q. listed-names contents rs (n + 1) ls (omega arith) q)
   where
-    go : (o : Found) → find_record l rs ≡ o → cond (is_at o) (absent_from (n + 1) rs ls) n ≡ 0
+    go : (o : Option ℕ) → find_record l rs ≡ o → cond (is_at o) (absent_from (n + 1) rs ls) n ≡ 0
         → (absent_from (n + 1) rs ls ≡ 0 → map (λ f. f.name) (members_of (files_from 1 contents rs) (members_from rs ls)) ≡ ls)
         → map (λ f. f.name) (members_of (files_from 1 contents rs) (record_found o ∷ members_from rs ls)) ≡ l ∷ ls
-    go (At k) p q ih = rw (find-name l (files_from 1 contents rs) k (find-files l 1 contents rs ∙ p), ih q)
-    go Nothing p q ih = absurd (omega arith)
+    go (Some k) p q ih = rw (find-name l (files_from 1 contents rs) k (find-files l 1 contents rs ∙ p), ih q)
+    go None p q ih = absurd (omega arith)
 
-pub member_names : (index contents list url : List ℕ) (limit out work : ℕ) → book_checked index contents list url limit out work ≡ Passed
+pub member_names : (index contents list url : List ℕ) (limit out work : ℕ) → book_checked index contents list url limit out work ≡ (Ok tt)
     → map (λ f. f.name) (members_of (files index contents) (members (records index) list)) ≡ names list
 member_names index contents list url limit out work e =
     listed-names contents (records index) 1 (names list) (omega arith) (book-named index contents list url limit out work e)
@@ -40,12 +38,12 @@ unfolding absent_from members_from Each
 listed-within contents rs n [] h e = tt
 listed-within contents rs n (l ∷ ls) h e = go (find_record l rs) refl e (λ q. listed-within contents rs (n + 1) ls (omega arith) q)
   where
-    go : (o : Found) → find_record l rs ≡ o → cond (is_at o) (absent_from (n + 1) rs ls) n ≡ 0
+    go : (o : Option ℕ) → find_record l rs ≡ o → cond (is_at o) (absent_from (n + 1) rs ls) n ≡ 0
         → (absent_from (n + 1) rs ls ≡ 0 → Each (λ k. k < length (files_from 1 contents rs)) (members_from rs ls))
         → (record_found o < length (files_from 1 contents rs)) × Each (λ k. k < length (files_from 1 contents rs)) (members_from rs ls)
-    go (At k) p q ih = (find-within l (files_from 1 contents rs) k (find-files l 1 contents rs ∙ p), ih q)
-    go Nothing p q ih = absurd (omega arith)
+    go (Some k) p q ih = (find-within l (files_from 1 contents rs) k (find-files l 1 contents rs ∙ p), ih q)
+    go None p q ih = absurd (omega arith)
 
-pub members-within : (index contents list url : List ℕ) (limit out work : ℕ) → book_checked index contents list url limit out work ≡ Passed
+pub members-within : (index contents list url : List ℕ) (limit out work : ℕ) → book_checked index contents list url limit out work ≡ (Ok tt)
     → Each (λ k. k < length (files index contents)) (members (records index) list)
 members-within index contents list url limit out work e = listed-within contents (records index) 1 (names list) (omega arith) (book-named index contents list url limit out work e)

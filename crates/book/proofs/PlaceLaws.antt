@@ -1,4 +1,5 @@
 -- The places of a book's refusals: what holds of each refusal at such a place holds of all that the walk of a book, and each call, may come to. Assumes nothing.
+use Rattle.std.specs.Prelude.{Result, Ok, Err}
 use Prim.Native.Nat.{ℕ, ◌≤◌, ◌<◌}
 use native.Mathlib.Omega.{arith}
 use mathlib.Core.Path.{◌≡◌, refl, ap}
@@ -11,8 +12,6 @@ use Rattle.index.specs.Index.{File, file_of, records, files}
 use Rattle.index.proofs.RowsLaws.{files-length}
 use Rattle.fileset.specs.Members.{members}
 use Rattle.fileset.specs.Check.{fill_checked, book_checked}
-use Rattle.fileset.specs.declared.check.Checked.{Checked}
-use Rattle.fileset.specs.declared.check.Checked.TheVariants.{Passed, Refused}
 use Rattle.fileset.proofs.PassedLaws.{fill_fit, book_fit}
 use Rattle.fileset.proofs.PlaceLaws.{HeadPlaces, fill_held, book_held}
 use Rattle.walk.specs.Outcome.{Outcome, text, noRegion, refusal, outcome}
@@ -72,9 +71,9 @@ set_in index contents d h =
     (omega (arith, e), omega (arith, e, files-length 1 contents (records index)))
 
 -- refused before the walk, or by it
-checks_refusal : {A : Type 0} (c : Checked) (o : Outcome) (x : Refusal) → after_checks c o ≡ refusal x → (c ≡ Refused x → A) → (c ≡ Passed → o ≡ refusal x → A) → A
-checks_refusal Passed o x e stop walked = walked refl e
-checks_refusal (Refused y) o x e stop walked = let q : y ≡ x = cc in stop (ap Refused q)
+checks_refusal : {A : Type 0} (c : Result (Unit {0}) Refusal) (o : Outcome) (x : Refusal) → after_checks c o ≡ refusal x → (c ≡ Err x → A) → (c ≡ (Ok tt) → o ≡ refusal x → A) → A
+checks_refusal (Ok tt) o x e stop walked = walked refl e
+checks_refusal (Err y) o x e stop walked = let q : y ≡ x = cc in stop (ap Err q)
 
 filled_refusal : (B L n : ℕ) (c : Chain) (x : Refusal) → filled B L n c ≡ refusal x → judge B L n (walk c) ≡ refused x
 filled_refusal B L n (wrong y ys r) x e = outcome_refused (judge B L n (walk (wrong y ys r))) x e
@@ -115,10 +114,10 @@ module _ (P : Refusal → Type 0) where
 
 -- ---- an assembly and a book give a text or a refusal, and never "no region"
 
-no_judged : (c : Checked) (j : Judged (List ℕ)) → after_checks c (outcome j) ≡ noRegion → ⊥
-no_judged Passed (given t n) e = let z : ◌≡◌ {A = ℕ} 0 1 = cc in omega arith
-no_judged Passed (refused x) e = let z : ◌≡◌ {A = ℕ} 0 1 = cc in omega arith
-no_judged (Refused x) j e = let z : ◌≡◌ {A = ℕ} 0 1 = cc in omega arith
+no_judged : (c : Result (Unit {0}) Refusal) (j : Judged (List ℕ)) → after_checks c (outcome j) ≡ noRegion → ⊥
+no_judged (Ok tt) (given t n) e = let z : ◌≡◌ {A = ℕ} 0 1 = cc in omega arith
+no_judged (Ok tt) (refused x) e = let z : ◌≡◌ {A = ℕ} 0 1 = cc in omega arith
+no_judged (Err x) j e = let z : ◌≡◌ {A = ℕ} 0 1 = cc in omega arith
 
 pub no_assembly : (index contents list url : List ℕ) (L out work : ℕ) → assemble_outcome index contents list url L out work ≡ noRegion → ⊥
 unfolding assemble_outcome
@@ -131,9 +130,9 @@ no_book index contents list url L B out work = no_judged (book_checked index con
 
 -- ---- an assembly takes no file in
 
-none-judged : (c : Checked) (L : ℕ) (w : Steps (List ℕ)) (t : List ℕ) (n : ℕ) → after_checks c (outcome (judge 0 L 0 w)) ≡ text t n → n ≡ 0
-none-judged Passed L w t n e = omega (arith, (given-judge 0 L 0 w t n (omega arith) (outcome-text (judge 0 L 0 w) t n e)).allowed)
-none-judged (Refused x) L w t n e = let z : ◌≡◌ {A = ℕ} 0 1 = cc in absurd (omega arith)
+none-judged : (c : Result (Unit {0}) Refusal) (L : ℕ) (w : Steps (List ℕ)) (t : List ℕ) (n : ℕ) → after_checks c (outcome (judge 0 L 0 w)) ≡ text t n → n ≡ 0
+none-judged (Ok tt) L w t n e = omega (arith, (given-judge 0 L 0 w t n (omega arith) (outcome-text (judge 0 L 0 w) t n e)).allowed)
+none-judged (Err x) L w t n e = let z : ◌≡◌ {A = ℕ} 0 1 = cc in absurd (omega arith)
 
 pub none_taken : (index contents list url : List ℕ) (L out work : ℕ) (t : List ℕ) (n : ℕ) → assemble_outcome index contents list url L out work ≡ text t n → n ≡ 0
 unfolding assemble_outcome

@@ -1,12 +1,11 @@
 -- Document 01, "Records": the calls fill, assembly and book: what they answer, and both buffers afterwards.
-use Rattle.std.specs.Prelude.{ℕ, List, ◌++◌, length, drop, replicate}
+use Rattle.std.specs.Prelude.{ℕ, List, ◌++◌, length, drop, replicate, Result, Ok, Err}
 use Rattle.answer.specs.declared.Answer.{Answer}
-use Rattle.answer.specs.declared.Answer.TheVariants.{Accepted, NoRegion, Refused as RefusedBy}
+use Rattle.answer.specs.declared.Refusal.{Refusal}
+use Rattle.answer.specs.declared.Answer.TheVariants.{Accepted, NoRegion}
 use Rattle.index.specs.Index.{file_of, records, files}
 use Rattle.fileset.specs.Members.{members}
 use Rattle.fileset.specs.Check.{fill_checked, book_checked}
-use Rattle.fileset.specs.declared.check.Checked.{Checked}
-use Rattle.fileset.specs.declared.check.Checked.TheVariants.{Passed, Refused}
 use Rattle.walk.specs.Steps.{judge}
 use Rattle.chains.specs.Chains.{start_at}
 use Rattle.walk.specs.Outcome.{Outcome, text, noRegion, refusal, outcome}
@@ -16,15 +15,15 @@ use Rattle.book.specs.Book.{members_of}
 use Rattle.book.specs.BookWalk.{book}
 
 -- "Order: 1 to 8 ..; then 14 over the list ..; then the walk"
-abbrev pub after_checks : Checked → Outcome → Outcome
-after_checks Passed o = o
-after_checks (Refused x) o = refusal x
+abbrev pub after_checks : Result (Unit {0}) Refusal → Outcome → Outcome
+after_checks (Ok tt) o = o
+after_checks (Err x) o = refusal x
 
 -- "Acceptance gives length and files taken in"; ""No region" gives nothing more"; "A refusal gives number, place and second place"
-abbrev pub answer_of : Outcome → Answer
-answer_of (text t n) = Accepted (length t) n
-answer_of noRegion = NoRegion
-answer_of (refusal x) = RefusedBy x
+abbrev pub answer_of : Outcome → Result Answer Refusal
+answer_of (text t n) = Ok (Accepted (length t) n)
+answer_of noRegion = (Ok NoRegion)
+answer_of (refusal x) = Err x
 
 -- "the output begins with the text or listing and its other bytes are unchanged"; else "the output is unchanged"
 abbrev pub output_after : Outcome → List ℕ → List ℕ

@@ -5,9 +5,9 @@ ghost use Rattle.std.specs.Prelude.{◌≡◌, length};
 ghost use Rattle.book.specs.Calls.{book_outcome, answer_of, output_after, work_after};
 ghost use Rattle.give.specs.Given.{read_answer, Fits};
 
-use answer::Answer;
+use answer::{Answer, Refusal};
 use fileset::check;
-use fileset::check::{Checked, Sizes};
+use fileset::check::Sizes;
 
 // Checks the input, and makes the book at the front of the work buffer.
 fn run(
@@ -18,7 +18,7 @@ fn run(
     sizes: Sizes,
     allowance: usize,
     work: &mut [u8],
-) -> Answer
+) -> Result<Answer, Refusal>
     requires { sizes.work ≡ length work.old }
     ensures work_after { read_answer result work.new ≡ book_outcome index.now contents.now list.now url.now sizes.limit allowance sizes.output sizes.work }
     ensures fits { Fits result sizes.output sizes.work }
@@ -26,8 +26,8 @@ fn run(
     let mut rows = [0usize; 256];
     let mut lines = [0usize; 64];
     match check::check_book(index, contents, list, url, sizes, &mut rows, &mut lines) {
-        Checked::Refused(refusal) => Answer::Refused(refusal),
-        Checked::Passed => book_walk::assemble_listed(
+        Err(refusal) => Err(refusal),
+        Ok(()) => book_walk::assemble_listed(
             index, &rows, &lines, contents, list, url, sizes, allowance, work,
         ),
     }
@@ -43,7 +43,7 @@ pub fn book(
     allowance: usize,
     out: &mut [u8],
     work: &mut [u8],
-) -> Answer
+) -> Result<Answer, Refusal>
     ensures value { result ≡ answer_of (book_outcome index.now contents.now list.now url.now limit allowance (length out.old) (length work.old)) }
     ensures out_after { out.new ≡ output_after (book_outcome index.now contents.now list.now url.now limit allowance (length out.old) (length work.old)) out.old }
     ensures work_after { work.new ≡ work_after work.old }

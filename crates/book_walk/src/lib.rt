@@ -1,11 +1,10 @@
 #![tactic(auto)]
 
 // The walk of a book: the members of a list filled, and joined into one text, at the front of the work buffer.
-ghost use Rattle.std.specs.Prelude.{◌≡◌, ◌≤◌, length};
+ghost use Rattle.std.specs.Prelude.{◌≡◌, ◌≤◌, length, Ok};
 ghost use Rattle.index.specs.Index.{records, files};
 ghost use Rattle.fileset.specs.Check.{book_checked, Passes, Listed};
 ghost use Rattle.fileset.specs.Members.{members};
-ghost use Rattle.fileset.specs.declared.check.Checked.TheVariants.{Passed};
 ghost use Rattle.walk.specs.Outcome.{outcome};
 ghost use Rattle.walk.specs.Steps.{judge};
 ghost use Rattle.opening.specs.Opening.{files_in};
@@ -14,10 +13,9 @@ ghost use Rattle.book.specs.BookWalk.{book};
 ghost use Rattle.made.specs.Made.{book_of, CanMake};
 ghost use Rattle.give.specs.Given.{read_answer, Fits};
 
-use answer::Answer;
+use answer::{Answer, Refusal};
 use fileset::check;
 use fileset::check::Sizes;
-use made::Made;
 
 // Fills the members of a set, and assembles them at the front of the work buffer. The table of anchors stands behind their slots.
 fn assemble_made(
@@ -31,7 +29,7 @@ fn assemble_made(
     set: &mut [usize; 704],
     count: usize,
     work: &mut [u8],
-) -> Answer
+) -> Result<Answer, Refusal>
     requires { CanMake index.now rows.now (length contents.now) set.old records count limit (length work.old) × (1 ≤ limit) }
     ensures work_after { read_answer result work.new ≡ outcome (judge allowance limit 0 (book_of (files_in index.now rows.now contents.now records)
         (files_from index.now contents.now work.old set.old 0 count) url.now)) }
@@ -40,8 +38,8 @@ fn assemble_made(
     match made::put_made(
         index, rows, contents, records, limit, allowance, set, count, work,
     ) {
-        Made::Refused(refusal) => Answer::Refused(refusal),
-        Made::All(files) => {
+        Err(refusal) => Err(refusal),
+        Ok(files) => {
             let table = (count + 1) * limit;
             let text = assembly::assemble(index, contents, url, set, count, limit, table, work);
             give::answer_of(text, files)
@@ -60,8 +58,8 @@ pub fn assemble_listed(
     sizes: Sizes,
     allowance: usize,
     work: &mut [u8],
-) -> Answer
-    requires { (book_checked index.now contents.now list.now url.now sizes.limit sizes.output sizes.work ≡ Passed) × (Passes index.now contents.now rows.now × (Listed (records index.now) list.now lines.now Passed × (sizes.work ≡ length work.old))) }
+) -> Result<Answer, Refusal>
+    requires { (book_checked index.now contents.now list.now url.now sizes.limit sizes.output sizes.work ≡ (Ok tt)) × (Passes index.now contents.now rows.now × (Listed (records index.now) list.now lines.now (Ok tt) × (sizes.work ≡ length work.old))) }
     ensures work_after { read_answer result work.new ≡ outcome (judge allowance sizes.limit 0 (book (files index.now contents.now) (members (records index.now) list.now) url.now)) }
     ensures fits { Fits result sizes.limit sizes.limit }
 {

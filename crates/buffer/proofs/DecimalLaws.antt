@@ -1,5 +1,6 @@
 -- Laws of `specs/Decimal.antt`: a number's digits by its tenth, how many they are, their writing from the last one to the first, and their reading.
 -- Assumes nothing.
+use Rattle.std.specs.Prelude.{Some, None}
 use Prim.Native.Nat.{ℕ, zero, suc, ◌+◌, ◌*◌, ◌-◌, ◌/◌, ◌%◌, ◌^◌, ◌≤◌, ◌<◌, zero-le}
 use native.Mathlib.Decide.{dec_le}
 use native.Mathlib.Numerals.{add-one}
@@ -12,7 +13,6 @@ use lib.Seq.{drop-cons}
 use lib.Dec.{ltb}
 use borrow.Author.Tests.{le-ltb, lt-ltb, le-leb, lt-leb}
 use Rattle.buffer.specs.Decimal.{digits, decimal, number_from}
-use Rattle.buffer.specs.declared.decimal.Number.TheVariants.{Is, NoNumber}
 use Rattle.buffer.proofs.BufferLaws.{set_before}
 
 digits-small : (f n : ℕ) → n < 10 → digits (suc f) n ≡ (0x30 + n) ∷ []
@@ -87,11 +87,11 @@ before_small l i m h p q = set_before l i (0x30 + m) p q ∙ ap (λ (a : List �
 
 -- at byte i of s, behind the number n
 module _ (s : List ℕ) (n i : ℕ) (h : i < length s) where
-  pub at_low : get_or s i 0 < 0x30 → number_from n (drop i s) ≡ NoNumber
+  pub at_low : get_or s i 0 < 0x30 → number_from n (drop i s) ≡ None
   unfolding number_from
   at_low q = rw (drop-cons s i 0 h, lt-leb 0x30 (get_or s i 0) q)
 
-  pub at_high : 0x39 < get_or s i 0 → number_from n (drop i s) ≡ NoNumber
+  pub at_high : 0x39 < get_or s i 0 → number_from n (drop i s) ≡ None
   unfolding number_from
   at_high q = rw (drop-cons s i 0 h, le-leb 0x30 (get_or s i 0) (omega arith), lt-leb (get_or s i 0) 0x39 q)
 
@@ -99,7 +99,7 @@ module _ (s : List ℕ) (n i : ℕ) (h : i < length s) where
   unfolding number_from
   at_digit p q = rw (drop-cons s i 0 h, le-leb 0x30 (get_or s i 0) p, le-leb (get_or s i 0) 0x39 q, add-one i)
 
-pub at-end : (s : List ℕ) (n i : ℕ) → length s ≤ i → number_from n (drop i s) ≡ Is n
+pub at-end : (s : List ℕ) (n i : ℕ) → length s ≤ i → number_from n (drop i s) ≡ Some n
 unfolding number_from
 at-end s n i h = rw (drop_of_length-le s h)
 

@@ -1,8 +1,6 @@
 -- Numbers in decimal.
-use Rattle.std.specs.Prelude.{ℕ, zero, suc, ◌+◌, ◌*◌, ◌-◌, ◌/◌, ◌%◌, cond, List, [], ◌∷◌, ◌++◌, ltb}
+use Rattle.std.specs.Prelude.{ℕ, zero, suc, ◌+◌, ◌*◌, ◌-◌, ◌/◌, ◌%◌, cond, List, [], ◌∷◌, ◌++◌, ltb, Option, Some, None}
 use Rattle.text.specs.Ascii.{is_digit}
-use Rattle.buffer.specs.declared.decimal.Number.{Number}
-use Rattle.buffer.specs.declared.decimal.Number.TheVariants.{Is, NoNumber}
 
 -- n in decimal without needless zeros, with at most f digits
 unfoldable pub digits : ℕ → ℕ → List ℕ
@@ -14,10 +12,10 @@ unfoldable pub decimal : ℕ → List ℕ
 decimal n = digits 20 n
 
 -- the number that the digits of n and then those of s make; none where s has another byte
-unfoldable pub number_from : ℕ → List ℕ → Number
-number_from n [] = Is n
-number_from n (x ∷ s) = cond (is_digit x) (number_from (n * 10 + (x - 0x30)) s) NoNumber
+unfoldable pub number_from : ℕ → List ℕ → Option ℕ
+number_from n [] = Some n
+number_from n (x ∷ s) = cond (is_digit x) (number_from (n * 10 + (x - 0x30)) s) None
 
 -- the number that the digits of s make
-abbrev pub number_of : List ℕ → Number
+abbrev pub number_of : List ℕ → Option ℕ
 number_of s = number_from 0 s

@@ -2,12 +2,6 @@
 ghost use Rattle.std.specs.Prelude.{◌≡◌, ◌+◌, ◌≤◌, ◌<◌, length, drop, ◌++◌};
 ghost use Rattle.buffer.specs.Decimal.{decimal, number_of};
 
-#[derive(Clone, Copy)]
-pub enum Number {
-    Is(usize),
-    NoNumber,
-}
-
 fn digit(n: usize) -> u8
     requires { n < 10 }
     ensures { result ≡ 0x30 + n }
@@ -33,7 +27,7 @@ pub fn put_before(out: &mut [u8], e: usize, n: usize) -> usize
 }
 
 // The number that decimal digits make, if s has no other byte.
-pub fn parse(s: &[u8]) -> Number
+pub fn parse(s: &[u8]) -> Option<usize>
     requires { length s.now ≤ 10 }
     ensures { result ≡ number_of s.now }
 {
@@ -42,13 +36,13 @@ pub fn parse(s: &[u8]) -> Number
     while i < s.len() {
         let b = s[i];
         if b < b'0' {
-            return Number::NoNumber;
+            return None;
         }
         if b'9' < b {
-            return Number::NoNumber;
+            return None;
         }
         n = n * 10 + (b - b'0') as usize;
         i += 1;
     }
-    Number::Is(n)
+    Some(n)
 }

@@ -1,4 +1,5 @@
 -- The numbers of faults: what lies on a chain is 9 to 14 or 16, and no other refusal. Assumes nothing.
+use Rattle.std.specs.Prelude.{Option, Some, None}
 use Prim.Native.Nat.{ℕ, zero, suc, ◌+◌, ◌-◌}
 use native.Mathlib.Omega.{arith}
 use mathlib.Core.Path.{◌≡◌, refl}
@@ -13,17 +14,11 @@ use Rattle.answer.specs.declared.Place.{Place}
 use Rattle.answer.specs.declared.Refusal.{Refusal}
 use Rattle.answer.specs.declared.Refusal.TheVariants.{NestedRegion, FragmentMarker, UnclosedRegion, OnChain, HeadingLevel}
 use Rattle.text.specs.Pattern.{equals}
-use Rattle.text.specs.declared.pattern.Found.{Found}
-use Rattle.text.specs.declared.pattern.Found.TheVariants.{At, Nothing}
 use Rattle.scan.specs.Scan.{scan, regions_of}
 use Rattle.scan.specs.declared.event.Event.{Event}
 use Rattle.scan.specs.declared.event.Event.TheVariants.{OfSpan, OfRegion, OfProblem}
 use Rattle.scan.specs.declared.event.Region.{Region}
 use Rattle.heading.specs.Level.{moved_to}
-use Rattle.heading.specs.declared.level.Moved.{Moved}
-use Rattle.heading.specs.declared.level.Moved.TheVariants.{To, Past}
-use Rattle.heading.specs.declared.level.TopLevel.{TopLevel}
-use Rattle.heading.specs.declared.level.TopLevel.TheVariants.{Level, NoHeading}
 use Rattle.heading.specs.declared.walk.LineKind.{LineKind}
 use Rattle.heading.specs.declared.walk.LineKind.TheVariants.{Quoted, Heading, Other}
 use Rattle.index.specs.Index.{File, find_file}
@@ -54,11 +49,11 @@ problems_fault f (OfRegion g ∷ es) = problems_fault f es
 problems_fault f (OfProblem n k ∷ es) = all_append (refusal_of k (place f n)) (problems_of f es) (refusal_fault k (place f n)) (problems_fault f es)
 
 -- 12
-peer_fault : (peer : Bool) (b : TopLevel) (p : Place) → all_faults (peer_faults peer b p) ≡ true
+peer_fault : (peer : Bool) (b : Option ℕ) (p : Place) → all_faults (peer_faults peer b p) ≡ true
 unfolding all_faults
-peer_fault peer (Level n) p = refl
-peer_fault true NoHeading p = refl
-peer_fault false NoHeading p = refl
+peer_fault peer (Some n) p = refl
+peer_fault true None p = refl
+peer_fault false None p = refl
 
 -- 13 and 14
 abbrev NextFault : Next → Type 0
@@ -73,10 +68,10 @@ next_fault S top m g = go (equals top g.name) (find_file g.name S)
     named d true = refl
     named d false = tt
 
-    go : (b : Bool) (o : Found) → NextFault (cond b (stop (OnChain g.opener)) (next_found m g.opener o))
+    go : (b : Bool) (o : Option ℕ) → NextFault (cond b (stop (OnChain g.opener)) (next_found m g.opener o))
     go true o = refl
-    go false (At d) = named d (get_or m d false)
-    go false Nothing = refl
+    go false (Some d) = named d (get_or m d false)
+    go false None = refl
 
 -- 16, as any refusal that a line's number makes
 module _ (f : ℕ → Refusal) (h : (n : ℕ) → is_fault (f n) ≡ true) (z : ℤ) where
@@ -85,9 +80,9 @@ module _ (f : ℕ → Refusal) (h : (n : ℕ) → is_fault (f n) ≡ true) (z : 
   line_fault n Quoted = refl
   line_fault n (Heading l a e) = go (moved_to (pos l +ℤ z))
     where
-      go : (y : Moved) → all_faults (past y (f n)) ≡ true
-      go (To m) = refl
-      go Past = rw (h n)
+      go : (y : Option ℕ) → all_faults (past y (f n)) ≡ true
+      go (Some m) = refl
+      go None = rw (h n)
   line_fault n Other = refl
 
   pub past_fault : (n : ℕ) (ks : List LineKind) → all_faults (past_from f n z ks) ≡ true

@@ -1,4 +1,5 @@
 -- A name among the files of a set; and how far a chain may go on never bounds it: the count of files not on the chain does not run out. Assumes nothing.
+use Rattle.std.specs.Prelude.{Option, Some, None}
 use Prim.Native.Nat.{ℕ, zero, suc, ◌+◌, ◌≤◌, ◌<◌}
 use native.Mathlib.Nat.{le_of_suc-le-suc, not-suc-le-zero}
 use native.Mathlib.Omega.{arith}
@@ -7,8 +8,6 @@ use mathlib.Core.Bool.{Bool, true, false, cond}
 use mathlib.Core.List.{List, [], ◌∷◌}
 use lib.ListN.{length, get_or, set, length-set}
 use Rattle.text.specs.Pattern.{equals, later}
-use Rattle.text.specs.declared.pattern.Found.{Found}
-use Rattle.text.specs.declared.pattern.Found.TheVariants.{At, Nothing}
 use Rattle.text.proofs.PatternLaws.{equals-same}
 use Rattle.answer.specs.declared.Refusal.TheVariants.{OnChain}
 use Rattle.index.specs.Index.{Record, File, files_from, first_named, find_record, find_file}
@@ -27,47 +26,47 @@ free_set (true ∷ m) (suc d) l h = free_set m d (le_of_suc-le-suc l) h
 free_set (false ∷ m) (suc d) l h = ap suc (free_set m d (le_of_suc-le-suc l) h)
 
 -- a name is found within the set
-pub find-within : (name : List ℕ) (S : List File) (d : ℕ) → find_file name S ≡ At d → d < length S
+pub find-within : (name : List ℕ) (S : List File) (d : ℕ) → find_file name S ≡ Some d → d < length S
 unfolding first_named
 find-within name [] d e = let z : ◌≡◌ {A = ℕ} 0 1 = cc in absurd (omega arith)
 find-within name (f ∷ S) d e = go (equals name f.name) (find_file name S) refl e (λ k q. find-within name S k q)
   where
-    go : (b : Bool) (o : Found) → find_file name S ≡ o → cond b (At 0) (later 1 o) ≡ At d → ((k : ℕ) → find_file name S ≡ At k → k < length S) → d < suc (length S)
+    go : (b : Bool) (o : Option ℕ) → find_file name S ≡ o → cond b (Some 0) (later 1 o) ≡ Some d → ((k : ℕ) → find_file name S ≡ Some k → k < length S) → d < suc (length S)
     go true o q h ih = let z : 0 ≡ d = cc in omega arith
-    go false (At k) q h ih = let z : 1 + k ≡ d = cc in omega (arith, ih k q)
-    go false Nothing q h ih = let z : ◌≡◌ {A = ℕ} 0 1 = cc in absurd (omega arith)
+    go false (Some k) q h ih = let z : 1 + k ≡ d = cc in omega (arith, ih k q)
+    go false None q h ih = let z : ◌≡◌ {A = ℕ} 0 1 = cc in absurd (omega arith)
 
 -- a name is looked for among the files as among the records
 pub find-files : (name : List ℕ) (k : ℕ) (contents : List ℕ) (rs : List Record) → find_file name (files_from k contents rs) ≡ find_record name rs
 unfolding files_from first_named
 find-files name k contents [] = refl
-find-files name k contents (r ∷ rs) = ap (λ (o : Found). cond (equals name r.name) (At 0) (later 1 o)) (find-files name (k + 1) contents rs)
+find-files name k contents (r ∷ rs) = ap (λ (o : Option ℕ). cond (equals name r.name) (Some 0) (later 1 o)) (find-files name (k + 1) contents rs)
 
 -- the file that is found has the name
-pub find-name : (name : List ℕ) (S : List File) (d : ℕ) → find_file name S ≡ At d → (file_at S d).name ≡ name
+pub find-name : (name : List ℕ) (S : List File) (d : ℕ) → find_file name S ≡ Some d → (file_at S d).name ≡ name
 unfolding first_named
 find-name name [] d e = let z : ◌≡◌ {A = ℕ} 0 1 = cc in absurd (omega arith)
 find-name name (f ∷ S) d e = go (equals name f.name) refl (find_file name S) refl e (find-name name S)
   where
-    go : (b : Bool) → equals name f.name ≡ b → (o : Found) → find_file name S ≡ o → cond b (At 0) (later 1 o) ≡ At d → ((k : ℕ) → find_file name S ≡ At k → (file_at S k).name ≡ name)
+    go : (b : Bool) → equals name f.name ≡ b → (o : Option ℕ) → find_file name S ≡ o → cond b (Some 0) (later 1 o) ≡ Some d → ((k : ℕ) → find_file name S ≡ Some k → (file_at S k).name ≡ name)
         → (file_at (f ∷ S) d).name ≡ name
     go true q o p h ih = let z : 0 ≡ d = cc in rw (← z) (sym (equals-same name f.name q))
-    go false q (At k) p h ih = let z : 1 + k ≡ d = cc in let y : suc k ≡ d = omega arith in rw (← y) (ih k p)
-    go false q Nothing p h ih = let z : ◌≡◌ {A = ℕ} 0 1 = cc in absurd (omega arith)
+    go false q (Some k) p h ih = let z : 1 + k ≡ d = cc in let y : suc k ≡ d = omega arith in rw (← y) (ih k p)
+    go false q None p h ih = let z : ◌≡◌ {A = ℕ} 0 1 = cc in absurd (omega arith)
 
 -- a region leads on only to a file of S that is not on the chain
 pub next-free : (S : List File) (top : List ℕ) (m : List Bool) (g : HostRegion) (d : ℕ) → next S top m g ≡ on d → (d < length S) × (get_or m d false ≡ false)
 unfolding next
 next-free S top m g d e = at_name (equals top g.name) (find_file g.name S) refl e
   where
-    at_mark : (k : ℕ) (b : Bool) → get_or m k false ≡ b → find_file g.name S ≡ At k → cond b (stop (OnChain g.opener)) (on k) ≡ on d → (d < length S) × (get_or m d false ≡ false)
+    at_mark : (k : ℕ) (b : Bool) → get_or m k false ≡ b → find_file g.name S ≡ Some k → cond b (stop (OnChain g.opener)) (on k) ≡ on d → (d < length S) × (get_or m d false ≡ false)
     at_mark k true p q h = let z : ◌≡◌ {A = ℕ} 0 1 = cc in absurd (omega arith)
     at_mark k false p q h = let e : k ≡ d = cc in rw (← e) (find-within g.name S k q, p)
 
-    at_name : (b : Bool) (o : Found) → find_file g.name S ≡ o → cond b (stop (OnChain g.opener)) (next_found m g.opener o) ≡ on d → (d < length S) × (get_or m d false ≡ false)
+    at_name : (b : Bool) (o : Option ℕ) → find_file g.name S ≡ o → cond b (stop (OnChain g.opener)) (next_found m g.opener o) ≡ on d → (d < length S) × (get_or m d false ≡ false)
     at_name true o q h = let z : ◌≡◌ {A = ℕ} 0 1 = cc in absurd (omega arith)
-    at_name false (At k) q h = at_mark k (get_or m k false) refl q h
-    at_name false Nothing q h = let z : ◌≡◌ {A = ℕ} 0 1 = cc in absurd (omega arith)
+    at_name false (Some k) q h = at_mark k (get_or m k false) refl q h
+    at_name false None q h = let z : ◌≡◌ {A = ℕ} 0 1 = cc in absurd (omega arith)
 
 module _ (S : List File) (top : List ℕ) (m : List Bool) (k : ℕ) (a b : ℕ → Chain) (h : (d : ℕ) → d < length S → get_or m d false ≡ false → a d ≡ b d) where
   through_same : (r : Regions) → through S top m k a r ≡ through S top m k b r

@@ -1,5 +1,6 @@
 -- What a chain makes does not depend on the number of its first file, which only places have: a member of a book makes the text that the same file makes as a host
 -- handed in. Assumes nothing.
+use Rattle.std.specs.Prelude.{Option, Some, None}
 use Prim.Native.Nat.{ℕ, zero, suc, ◌-◌}
 use mathlib.Core.Path.{◌≡◌, refl}
 use mathlib.Core.Bool.{Bool, true, false, cond}
@@ -14,15 +15,11 @@ use Rattle.answer.specs.declared.Refusal.TheVariants.{NestedRegion, FragmentMark
 use Rattle.text.specs.Bytes.{part}
 use Rattle.text.specs.Lines.{pieces}
 use Rattle.text.specs.Pattern.{equals}
-use Rattle.text.specs.declared.pattern.Found.{Found}
-use Rattle.text.specs.declared.pattern.Found.TheVariants.{At, Nothing}
 use Rattle.scan.specs.Scan.{scan, regions_of}
 use Rattle.scan.specs.declared.event.Event.{Event}
 use Rattle.scan.specs.declared.event.Event.TheVariants.{OfSpan, OfRegion, OfProblem}
 use Rattle.scan.specs.declared.event.Region.{Region}
 use Rattle.heading.specs.Level.{shallowest_of}
-use Rattle.heading.specs.declared.level.TopLevel.{TopLevel}
-use Rattle.heading.specs.declared.level.TopLevel.TheVariants.{Level, NoHeading}
 use Rattle.heading.specs.declared.walk.LineKind.{LineKind}
 use Rattle.index.specs.Index.{File, file_of, find_file}
 use Rattle.walk.specs.Parts.{part_made, unless, and_then}
@@ -60,10 +57,10 @@ problems_alike j k (OfRegion g ∷ es) = problems_alike j k es
 problems_alike j k (OfProblem n m ∷ es) =
     alike-append (refusal_of m (place j n)) (refusal_of m (place k n)) (problems_of j es) (problems_of k es) (refusal_alike m (place j n) (place k n)) (problems_alike j k es)
 
-peer_made : {A : Type 0} (peer : Bool) (b : TopLevel) (p q : Place) (a : A) → part_made (unless (peer_faults peer b p) a) ≡ part_made (unless (peer_faults peer b q) a)
-peer_made peer (Level n) p q a = refl
-peer_made true NoHeading p q a = refl
-peer_made false NoHeading p q a = refl
+peer_made : {A : Type 0} (peer : Bool) (b : Option ℕ) (p q : Place) (a : A) → part_made (unless (peer_faults peer b p) a) ≡ part_made (unless (peer_faults peer b q) a)
+peer_made peer (Some n) p q a = refl
+peer_made true None p q a = refl
+peer_made false None p q a = refl
 
 then_same : {A C : Type 0} (o : Option A) (f g : A → Option C) → ((a : A) → f a ≡ g a) → and_then o f ≡ and_then o g
 then_same none f g h = refl
@@ -78,7 +75,7 @@ module _ (S : List File) (top : List ℕ) (m : List Bool) (more : ℕ → Chain)
     opener = place k g.opener.line;
     faults = peer_faults g.peer (above g.opener.line own) (place k g.opener.line);
     name = part g.path.start g.path.end t;
-    target = target_level g.peer (above g.opener.line own) (shallowest_of NoHeading own);
+    target = target_level g.peer (above g.opener.line own) (shallowest_of None own);
   }
 
   abbrev Same : Rest → Rest → Type 0
@@ -101,11 +98,11 @@ module _ (S : List File) (top : List ℕ) (m : List Bool) (more : ℕ → Chain)
       named d true = refl
       named d false = into-same j k n g (file_at S d).number (more d) r q h us
 
-      go : (b : Bool) (o : Found) → made_rest (branch S (region_of j n g) (cond b (stop (OnChain (region_of j n g).opener)) (next_found m (region_of j n g).opener o)) more r) us
+      go : (b : Bool) (o : Option ℕ) → made_rest (branch S (region_of j n g) (cond b (stop (OnChain (region_of j n g).opener)) (next_found m (region_of j n g).opener o)) more r) us
           ≡ made_rest (branch S (region_of k n g) (cond b (stop (OnChain (region_of k n g).opener)) (next_found m (region_of k n g).opener o)) more q) us
       go true o = refl
-      go false (At d) = named d (get_or m d false)
-      go false Nothing = refl
+      go false (Some d) = named d (get_or m d false)
+      go false None = refl
 
   rest-same : (j k n : ℕ) (gs : List Region)
       → Same (through S top m j more (regions_from (file_of j name t) ls own n gs)) (through S top m k more (regions_from (file_of k name t) ls own n gs))

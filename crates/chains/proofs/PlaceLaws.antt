@@ -1,4 +1,5 @@
 -- The places of a fill's refusals: what holds of each refusal at such a place holds of all that the walk of a chain may come to. Assumes nothing.
+use Rattle.std.specs.Prelude.{Option, Some, None}
 use Prim.Native.Nat.{ℕ, zero, suc, ◌+◌, ◌-◌, ◌≤◌, ◌<◌}
 use native.Mathlib.Omega.{arith}
 use native.Mathlib.Nat.{add-zero}
@@ -15,8 +16,6 @@ use Rattle.answer.specs.declared.Refusal.{Refusal}
 use Rattle.answer.specs.declared.Refusal.TheVariants.{NestedRegion, FragmentMarker, UnclosedRegion, PeerWithoutHeading, OnChain, Absent, Allowance, HeadingLevel, TextLimit}
 use Rattle.text.specs.Lines.{Line, lines}
 use Rattle.text.specs.Pattern.{equals}
-use Rattle.text.specs.declared.pattern.Found.{Found}
-use Rattle.text.specs.declared.pattern.Found.TheVariants.{At, Nothing}
 use Rattle.marker.specs.declared.line.Kind.{Kind}
 use Rattle.marker.specs.declared.line.Kind.TheVariants.{Plain, Fence, Fault, Closes, Opens, Spans}
 use Rattle.marker.specs.declared.span.Stop.{Stop}
@@ -26,14 +25,8 @@ use Rattle.scan.specs.declared.event.Event.{Event}
 use Rattle.scan.specs.declared.event.Event.TheVariants.{OfSpan, OfRegion, OfProblem}
 use Rattle.scan.specs.declared.event.Region.{Region}
 use Rattle.scan.specs.declared.event.Span.{Span}
-use Rattle.scan.specs.declared.state.OpenRegion.{OpenRegion}
-use Rattle.scan.specs.declared.state.OpenRegion.TheVariants.{Closed, Open}
 use Rattle.scan.specs.declared.state.State.{State}
 use Rattle.heading.specs.Level.{moved_to}
-use Rattle.heading.specs.declared.level.Moved.{Moved}
-use Rattle.heading.specs.declared.level.Moved.TheVariants.{To, Past}
-use Rattle.heading.specs.declared.level.TopLevel.{TopLevel}
-use Rattle.heading.specs.declared.level.TopLevel.TheVariants.{Level, NoHeading}
 use Rattle.heading.specs.declared.walk.LineKind.{LineKind}
 use Rattle.heading.specs.declared.walk.LineKind.TheVariants.{Quoted, Heading, Other}
 use Rattle.index.specs.Index.{Record, File, files_from, find_file}
@@ -53,9 +46,9 @@ Lined (OfSpan x) = Unit {0}
 Lined (OfRegion g) = 1 ≤ g.opener.line
 Lined (OfProblem n k) = (k ≡ 5 → ⊥) → 1 ≤ n
 
-abbrev LinedOpen : OpenRegion → Type 0
-LinedOpen Closed = Unit {0}
-LinedOpen (Open g) = 1 ≤ g.marker.line
+abbrev LinedOpen : Option Opener → Type 0
+LinedOpen None = Unit {0}
+LinedOpen (Some g) = 1 ≤ g.marker.line
 
 spans_lined : (xs : List Span) → Each Lined (map OfSpan xs)
 unfolding Each
@@ -67,10 +60,10 @@ unfolding Each
 stop_lined n (AtProblem k) h = (λ q. h, tt)
 stop_lined n AtSpanEnd h = tt
 
-closed_lined : (n o : ℕ) (r : OpenRegion) → LinedOpen r → Each Lined (closed_by n o r)
+closed_lined : (n o : ℕ) (r : Option Opener) → LinedOpen r → Each Lined (closed_by n o r)
 unfolding Each
-closed_lined n o Closed h = tt
-closed_lined n o (Open g) h = (h, tt)
+closed_lined n o None h = tt
+closed_lined n o (Some g) h = (h, tt)
 
 events_lined : (st : State) (n o : ℕ) (l : List ℕ) (k : Kind) → 1 ≤ n → LinedOpen st.region → Each Lined (events_of st n o l k)
 unfolding events_of span_events Each
@@ -96,9 +89,9 @@ last_lined : (st : State) (n : ℕ) → LinedOpen st.region → Each Lined (last
 unfolding last_of Each
 last_lined st n q = each_append Lined (unclosed st.region) _ (at-region st.region q) (at-fence st.fence)
   where
-    at-region : (r : OpenRegion) → LinedOpen r → Each Lined (unclosed r)
-    at-region Closed q = tt
-    at-region (Open g) q = (λ z. q, tt)
+    at-region : (r : Option Opener) → LinedOpen r → Each Lined (unclosed r)
+    at-region None q = tt
+    at-region (Some g) q = (λ z. q, tt)
 
     at-fence : (b : Bool) → Each Lined (cond b (OfProblem n 5 ∷ []) [])
     at-fence true = (λ z. absurd (z refl), tt)
@@ -150,9 +143,9 @@ module _ (P : Refusal → Type 0) (f : ℕ → Refusal) (h : (l : ℕ) → 1 ≤
   past-each l [] k = tt
   past-each l (x ∷ ks) k = each_append P (past_line z x (f l)) _ (at-kind x) (past-each (l + 1) ks (omega arith))
     where
-      at_moved : (y : Moved) → Each P (past y (f l))
-      at_moved (To m) = tt
-      at_moved Past = (h l k, tt)
+      at_moved : (y : Option ℕ) → Each P (past y (f l))
+      at_moved (Some m) = tt
+      at_moved None = (h l k, tt)
 
       at-kind : (y : LineKind) → Each P (past_line z y (f l))
       at-kind Quoted = tt
@@ -190,11 +183,11 @@ module _ {P : Refusal → Type 0} {low n : ℕ} (h : FillPlaces P low n) where
   AllGood (behind ls) = Unit {0}
   AllGood (region g rs) = Good g × AllGood rs
 
-  peer-each : (peer : Bool) (b : TopLevel) (p : Place) → AtLine P p → Each P (peer_faults peer b p)
+  peer-each : (peer : Bool) (b : Option ℕ) (p : Place) → AtLine P p → Each P (peer_faults peer b p)
   unfolding Each
-  peer-each peer (Level m) p q = tt
-  peer-each true NoHeading p q = (q.peer, tt)
-  peer-each false NoHeading p q = tt
+  peer-each peer (Some m) p q = tt
+  peer-each true None p q = (q.peer, tt)
+  peer-each false None p q = tt
 
   regions-good : (f : File) → low ≤ f.number → f.number ≤ n → (ls : List (List ℕ)) (own : List LineKind) (k : ℕ) (gs : List Region) → Each (λ (g : Region). 1 ≤ g.opener.line) gs
       → AllGood (regions_from f ls own k gs)
@@ -225,10 +218,10 @@ module _ {P : Refusal → Type 0} {low n : ℕ} (h : FillPlaces P low n) where
       at_mark d true = p.chain
       at_mark d false = tt
 
-      at_name : (b : Bool) (o : Found) → NextGood (cond b (stop (OnChain g.opener)) (next_found m g.opener o))
+      at_name : (b : Bool) (o : Option ℕ) → NextGood (cond b (stop (OnChain g.opener)) (next_found m g.opener o))
       at_name true o = p.chain
-      at_name false (At d) = at_mark d (get_or m d false)
-      at_name false Nothing = p.absent
+      at_name false (Some d) = at_mark d (get_or m d false)
+      at_name false None = p.absent
 
   embed-each : (g : HostRegion) (d : ℕ) (v : List ℕ) → 1 ≤ d → d ≤ n → Holds P Lines (part (embed g d v))
   unfolding embed embed_told

@@ -1,6 +1,6 @@
 -- Document 01, "Records": chains, and what lies on them. No allowance, no limit and no walk.
 -- "a chain starts at a list line and goes on through each region that a scan of its last file finds, to a file of S not yet on it; what lies on a chain is reached."
-use Rattle.std.specs.Prelude.{ℕ, zero, suc, Bool, true, false, cond, ◌&&◌, List, [], ◌∷◌, ◌++◌, map, ◌≡◌, length, get_or, set, replicate, eqb, ltb}
+use Rattle.std.specs.Prelude.{ℕ, zero, suc, Bool, true, false, cond, ◌&&◌, List, [], ◌∷◌, ◌++◌, map, ◌≡◌, length, get_or, set, replicate, eqb, ltb, Option, Some, None}
 use Rattle.std.proofs.Math.Option.{Option, none, some}
 use Rattle.answer.specs.declared.Place.{Place}
 use Rattle.answer.specs.Answer.{place}
@@ -9,8 +9,6 @@ use Rattle.answer.specs.declared.Refusal.TheVariants.{OnChain, Absent}
 use Rattle.text.specs.Lines.{LF}
 use Rattle.text.specs.Pattern.{equals}
 use Rattle.text.specs.Split.{join}
-use Rattle.text.specs.declared.pattern.Found.{Found}
-use Rattle.text.specs.declared.pattern.Found.TheVariants.{At, Nothing}
 use Rattle.index.specs.Index.{File, file_of, find_file}
 use Rattle.walk.specs.Parts.{Part, part_made, part_faults, unless, and_then, if_made}
 use Rattle.regions.specs.Regions.{HostRegion, Regions, behind, region, Scanned, problem, noRegion, regions, scanned}
@@ -40,9 +38,9 @@ file_at S k = get_or S k (file_of 0 [] [])
 
 -- 13 "names a file on the chain": "the chain starts with the host's name, and names compare as bytes"; 14 "file not in the index". The chain started with
 -- the file named top, and the files m were taken in since
-abbrev pub next_found : List Bool → Place → Found → Next
-next_found m p (At d) = cond (get_or m d false) (stop (OnChain p)) (on d)
-next_found m p Nothing = stop (Absent p)
+abbrev pub next_found : List Bool → Place → Option ℕ → Next
+next_found m p (Some d) = cond (get_or m d false) (stop (OnChain p)) (on d)
+next_found m p None = stop (Absent p)
 
 abbrev pub next_named : List File → List ℕ → List Bool → Place → List ℕ → Next
 next_named S top m p name = cond (equals top name) (stop (OnChain p)) (next_found m p (find_file name S))

@@ -82,9 +82,9 @@ fn make<R: Env + Files + Print>(
         &mut work,
     );
     match a {
-        Answer::Accepted { length, files: _ } => give(rt, to, call.book, &out, length),
-        Answer::NoRegion => NO_CALL,
-        Answer::Refused(_) => {
+        Ok(Answer::Accepted { length, files: _ }) => give(rt, to, call.book, &out, length),
+        Ok(Answer::NoRegion) => NO_CALL,
+        Err(_) => {
             let _ = report::say_refusal(
                 rt,
                 to,

@@ -1,4 +1,5 @@
 -- Where no named departure holds, and only there, the scan is in a fence behind a line just where CommonMark is. Assumes nothing.
+use Rattle.std.specs.Prelude.{Option, Some, None}
 use Prim.Native.Nat.{ℕ, ◌≤◌}
 use mathlib.Core.Path.{◌≡◌, refl, sym, ◌∙◌, ap}
 use mathlib.Core.Bool.{Bool, true, false, cond, not, ◌&&◌, ◌||◌, false≢true}
@@ -6,17 +7,14 @@ use mathlib.Core.List.{List, [], ◌∷◌, ◌++◌}
 use mathlib.Core.Option.{Option, none, some}
 use borrow.Author.Tests.{leb-true}
 use lib.Dec.{leb}
+use Rattle.marker.specs.declared.line.Fragment.{Fragment}
 use Rattle.text.specs.Pattern.{starts_with, equals, contains, find}
 use Rattle.text.specs.Space.{is_space, lead, trim_start, trim}
 use Rattle.text.specs.Bytes.{any, first}
-use Rattle.text.specs.declared.pattern.Found.{Found}
-use Rattle.text.specs.declared.pattern.Found.TheVariants.{At, Nothing}
 use Rattle.text.proofs.BytesLaws.{or_left, or_right}
 use Rattle.text.proofs.PatternLaws.{and_left, and_right}
 use Rattle.fence.specs.Fences.{is_fence, opener, opens}
 use Rattle.marker.specs.Marker.{OPEN, CLOSE, OPEN-FRAGMENT, fragment_of, fragment_kind, marked_kind, kind_of}
-use Rattle.marker.specs.declared.line.Fragment.{Fragment}
-use Rattle.marker.specs.declared.line.Fragment.TheVariants.{Path, Other}
 use Rattle.marker.specs.declared.line.Kind.{Kind}
 use Rattle.marker.specs.declared.line.Kind.TheVariants.{Plain, Fence, Fault, Closes, Opens, Spans}
 use Rattle.heading.specs.Walk.{closes, step_after, outside_after, comment_after}
@@ -48,21 +46,21 @@ kept st n at Closes h = refl
 kept st n at (Opens a e peer) h = refl
 kept st n at (Spans i) h = refl
 
-other_fragment : (b : Bool) (i : ℕ) (l : List ℕ) (f : Fragment) → IsOther (fragment_kind b i l f)
+other_fragment : (b : Bool) (i : ℕ) (l : List ℕ) (f : Option Fragment) → IsOther (fragment_kind b i l f)
 unfolding fragment_kind
-other_fragment true i l (Path a e peer) = tt
-other_fragment false i l (Path a e peer) = tt
-other_fragment b i l Other = go (contains OPEN-FRAGMENT l)
+other_fragment true i l (Some p) = tt
+other_fragment false i l (Some p) = tt
+other_fragment b i l None = go (contains OPEN-FRAGMENT l)
   where
     go : (x : Bool) → IsOther (cond x (Fault 3) (Spans i))
     go true = tt
     go false = tt
 
-other_marked : (fence inside : Bool) (o : ℕ) (l : List ℕ) (f : Found) → IsOther (marked_kind fence inside o l f)
+other_marked : (fence inside : Bool) (o : ℕ) (l : List ℕ) (f : Option ℕ) → IsOther (marked_kind fence inside o l f)
 unfolding marked_kind
-other_marked fence inside o l Nothing = tt
-other_marked true inside o l (At i) = tt
-other_marked false inside o l (At i) = go (inside && equals CLOSE (trim l))
+other_marked fence inside o l None = tt
+other_marked true inside o l (Some i) = tt
+other_marked false inside o l (Some i) = go (inside && equals CLOSE (trim l))
   where
     go : (x : Bool) → IsOther (cond x Closes (fragment_kind inside i l (fragment_of o l)))
     go true = tt

@@ -1,5 +1,5 @@
 -- Where our fences and CommonMark's part: the named departures of docs/DIFFERENCES.md, each a test of the open fence and the line, and the theorems that there are no others and that each is one.
-use Rattle.std.specs.Prelude.{ℕ, ◌≤◌, Bool, true, false, not, ◌&&◌, ◌||◌, List, [], ◌∷◌, ◌++◌, ◌≡◌, eqb, leb, ltb}
+use Rattle.std.specs.Prelude.{ℕ, ◌≤◌, Bool, true, false, not, ◌&&◌, ◌||◌, List, [], ◌∷◌, ◌++◌, ◌≡◌, eqb, leb, ltb, None}
 use Rattle.std.proofs.Math.Option.{Option, none, some}
 use Rattle.text.specs.Bytes.{is, any}
 use Rattle.text.specs.Pattern.{bytes, starts_with}
@@ -8,7 +8,6 @@ use Rattle.fence.specs.declared.Fence.{Fence}
 use Rattle.fence.specs.declared.Fence.TheVariants.{Outside, Ticks, Tildes}
 use Rattle.scan.specs.Scan.{after, kind_at}
 use Rattle.scan.specs.declared.state.State.{State}
-use Rattle.scan.specs.declared.state.OpenRegion.TheVariants.{Closed}
 use Rattle.heading.specs.Walk.{step_after}
 use Rattle.commonmark.specs.Strip.{ended, is_shown, indent}
 use Rattle.commonmark.specs.Fenced.{Mark, backtick, tilde, CodeFence, byte_of, run, info, code_after}
@@ -131,7 +130,7 @@ EachParts =
 abbrev pub OtherKindParts : Type 0
 OtherKindParts =
     (other_kind_closes (ticks 3) (bytes "~~~") ≡ true)
-    × (((after (record { fence = true; region = Closed }) 2 4 (kind_at (record { fence = true; region = Closed }) 4 (bytes "~~~"))).fence ≡ false)
+    × (((after (record { fence = true; region = None }) 2 4 (kind_at (record { fence = true; region = None }) 4 (bytes "~~~"))).fence ≡ false)
     × (is_open (code_after (ticks 3) (bytes "~~~")) ≡ true))
 
 -- lines on which none of them holds: openers, closers and others, outside and in a fence

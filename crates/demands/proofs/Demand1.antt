@@ -1,4 +1,5 @@
 -- Demand 1 of the four calls, proved: `specs/Demand1.antt` has what it says. Assumes nothing.
+use Rattle.std.specs.Prelude.{Result, Ok, Err}
 use Prim.Native.Nat.{ℕ, ◌≤◌}
 use native.Mathlib.Omega.{arith}
 use mathlib.Core.Path.{◌≡◌, refl}
@@ -11,7 +12,7 @@ use lib.Seq.{drop-append_seam}
 use borrow.Author.Tests.{eqb-false}
 use Rattle.answer.specs.Answer.{place, numbers}
 use Rattle.answer.specs.declared.Answer.{Answer}
-use Rattle.answer.specs.declared.Answer.TheVariants.{Accepted as AcceptedAs, Refused as RefusedAs}
+use Rattle.answer.specs.declared.Answer.TheVariants.{Accepted as AcceptedAs}
 use Rattle.answer.specs.declared.Refusal.{Refusal}
 use Rattle.answer.specs.declared.Refusal.TheVariants.{WideByte, TextLimit}
 use Rattle.text.specs.Ascii.{wide_line}
@@ -147,7 +148,7 @@ module _ {out work answer out' work' : List ℕ} where
 
 -- a scan
 module _ (s : List ℕ) {out answer out' : List ℕ} where
-  scanned-answered : (b c : Bool) → eqb (wide_line 1 s) 0 ≡ b → let a : Answer = cond b (cond c (AcceptedAs (length (listing s)) 0) (RefusedAs (TextLimit (place 0 0)))) (RefusedAs (WideByte (place 0 (wide_line 1 s)))) in
+  scanned-answered : (b c : Bool) → eqb (wide_line 1 s) 0 ≡ b → let a : Result Answer Refusal = cond b (cond c (Ok (AcceptedAs (length (listing s)) 0)) (Err (TextLimit (place 0 0)))) (Err (WideByte (place 0 (wide_line 1 s)))) in
       answer ≡ numbers a → out' ≡ output_of a s out → Answered scan_refusals 0 0 answer out out' × NothingFilled answer
   unfolding output_of
   scanned-answered true true q e o = (

@@ -1,10 +1,9 @@
 -- Demand 3 of the call book, on what its caller finds afterwards. S is the file set that an index and contents give, M the record of each list line. `Sound` and `book_text` are defined
 -- in `Book` of the crate `book`, chains in `Chains` of `chains`: by what lies on chains, and not by what a walk answers.
-use Rattle.std.specs.Prelude.{ℕ, ◌≤◌, List, ◌↔◌, ◌≡◌, length, take, drop}
+use Rattle.std.specs.Prelude.{ℕ, ◌≤◌, List, ◌↔◌, ◌≡◌, length, take, drop, Ok}
 use Rattle.std.proofs.Math.Option.{some}
 use Rattle.answer.specs.declared.Refusal.{Refusal}
 use Rattle.fileset.specs.Check.{book_checked}
-use Rattle.fileset.specs.declared.check.Checked.TheVariants.{Passed}
 use Rattle.chains.specs.Chains.{CountsChains}
 use Rattle.book.specs.Book.{book_text, Sound}
 use Rattle.book.specs.Demand.{file_set, listed, numbers_of, Reason}
@@ -21,7 +20,7 @@ pub record Call (index contents list url : List ℕ) : Type 0 where
   pub out' : List ℕ
   pub work' : List ℕ
   pub contract : BookCall index contents list url L B out work answer out' work'
-  pub passed : book_checked index contents list url L (length out) (length work) ≡ Passed
+  pub passed : book_checked index contents list url L (length out) (length work) ≡ (Ok tt)
 
 -- an output that begins with a text; its other bytes are as before
 pub record Begins (t out out' : List ℕ) : Type 0 where

@@ -10,7 +10,7 @@ ghost use Rattle.earlier.specs.Earlier.{line_of, earlier as earlier_of};
 
 use answer::Place;
 use member::lines;
-use member::lines::NextHeading;
+use member::lines::KeptHeading;
 use put::Source;
 use text::pattern;
 
@@ -23,12 +23,14 @@ fn anchor_line(contents: &[u8], work: &[u8], text: Source, heading: Source) -> u
 {
     let mut c = lines::first();
     loop {
-        let NextHeading::Next {
-            level: _,
-            start,
-            end,
-            behind,
-        } = read::heading_in(contents, work, text, c)
+        let Some(
+            KeptHeading {
+                level: _,
+                start,
+                end,
+                behind,
+            },
+        ) = read::heading_in(contents, work, text, c)
         else {
             return 0;
         };

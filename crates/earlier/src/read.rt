@@ -6,11 +6,16 @@ ghost use Rattle.put.specs.Put.{source_text, Inside};
 ghost use Rattle.member.specs.Lines.{CursorIn, FoundHeading};
 
 use member::lines;
-use member::lines::{LineCursor, NextHeading};
+use member::lines::{KeptHeading, LineCursor};
 use put::Source;
 
 // The next heading of a source from a cursor on.
-pub fn heading_in(contents: &[u8], work: &[u8], source: Source, from: LineCursor) -> NextHeading
+pub fn heading_in(
+    contents: &[u8],
+    work: &[u8],
+    source: Source,
+    from: LineCursor,
+) -> Option<KeptHeading>
     requires { Inside source 0 (length contents.now) (length work.now) × CursorIn from (source_text source contents.now work.now) }
     ensures { FoundHeading (source_text source contents.now work.now) from result }
 {

@@ -6,10 +6,10 @@ ghost use Rattle.std.proofs.lemmas.List.Edits.{sets};
 ghost use Rattle.text.specs.Bytes.{part};
 ghost use Rattle.embedding.specs.Unmarked.{Unmarked, line_after};
 
-use scan::event::Part;
 use scan::region;
-use scan::region::{Cursor, NextRegion};
+use scan::region::Cursor;
 use text::lines;
+use text::part::Part;
 
 // Where the line after the one at a place starts.
 fn line_after(s: &[u8], at: usize) -> usize
@@ -42,7 +42,7 @@ pub fn drop_markers(work: &mut [u8], n: usize) -> usize
         let from = c.at;
         let r = region::next_region(&work[..n], c);
         match r {
-            NextRegion::Whole(g, _) => {
+            Some((g, _)) => {
                 let opener = g.opener;
                 let closer = g.closer;
                 let start = line_after(&work[..n], opener.at);
@@ -64,7 +64,7 @@ pub fn drop_markers(work: &mut [u8], n: usize) -> usize
                     line: closer.line,
                 };
             }
-            NextRegion::NoMore => {
+            None => {
                 return buffer::copy_down(work, from, n, at);
             }
         }

@@ -9,8 +9,8 @@ ghost use Rattle.members.specs.Members.{AllStand};
 ghost use Rattle.target.specs.Titles.{titles_in};
 ghost use Rattle.emission.specs.Emission.{emitted_text};
 
-use member::lines::NextLine;
-use put::{Put, Room, Source};
+use member::lines::KeptLine;
+use put::{Room, Source};
 
 mod read;
 
@@ -26,7 +26,7 @@ pub fn put_lines(
     shift: i32,
     room: Room,
     work: &mut [u8],
-) -> Put
+) -> Option<usize>
     requires { Able source room contents.now work.old × (AllStand index.now (length contents.now) room.limit (length work.old) set.now count × (mag shift ≤ 7)) }
     ensures { Wrote room (emitted_text (rewrite_target (titles_in index.now contents.now work.old set.now count) url.now dir.now) shift (source_text source contents.now work.old)) work.old work.new result }
 {
@@ -37,24 +37,26 @@ pub fn put_lines(
     loop {
         let passed = read::unlinked_in(contents, work, source, c);
         let d = passed.behind;
-        let Put::To(m) = emitted::put_block(contents, source, c, d, Room { at, limit }, work) else {
-            return Put::Over;
+        let Some(m) = emitted::put_block(contents, source, c, d, Room { at, limit }, work) else {
+            return None;
         };
-        let NextLine::Line {
-            start: a,
-            end: e,
-            kind,
-            behind,
-        } = read::line_in(contents, work, source, d)
+        let Some(
+            KeptLine {
+                start: a,
+                end: e,
+                kind,
+                behind,
+            },
+        ) = read::line_in(contents, work, source, d)
         else {
-            return Put::To(m);
+            return Some(m);
         };
         let moved = outline::moved_kind(titled, kind);
         let room = Room { at: m, limit };
-        let Put::To(n) = emitted::put_next(
+        let Some(n) = emitted::put_next(
             index, contents, url, set, count, source, moved, a, e, d.line, shift, dir, room, work,
         ) else {
-            return Put::Over;
+            return None;
         };
         at = n;
         c = behind;

@@ -5,11 +5,11 @@ ghost use Rattle.member.specs.Lines.{CursorIn, FoundLine};
 ghost use Rattle.member.specs.Passed.{PassedOver};
 
 use member::lines;
-use member::lines::{LineCursor, NextLine, Passed};
+use member::lines::{KeptLine, LineCursor, Passed};
 use put::Source;
 
 // The next line that a source keeps, from a cursor on.
-pub fn line_in(contents: &[u8], work: &[u8], source: Source, from: LineCursor) -> NextLine
+pub fn line_in(contents: &[u8], work: &[u8], source: Source, from: LineCursor) -> Option<KeptLine>
     requires { Inside source 0 (length contents.now) (length work.now) × CursorIn from (source_text source contents.now work.now) }
     ensures { FoundLine (source_text source contents.now work.now) from result }
 {

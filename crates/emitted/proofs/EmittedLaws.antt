@@ -1,4 +1,5 @@
 -- Laws of `specs/Emitted.antt`: what a line becomes, by what stands before its text and by its text. Assumes nothing.
+use Rattle.std.specs.Prelude.{Option, Some, None}
 use Prim.Native.Nat.{ℕ, zero, suc, ◌+◌, ◌-◌, ◌≤◌, ◌<◌}
 use native.Mathlib.Omega.{arith}
 use mathlib.Core.Path.{◌≡◌, refl, sym, ap, subst, ◌∙◌}
@@ -7,8 +8,6 @@ use lib.IntN.{ℤ, pos, ◌+ℤ◌}
 use lib.ListN.{length}
 use Rattle.text.specs.Bytes.{part}
 use Rattle.heading.specs.Level.{moved_to}
-use Rattle.heading.specs.declared.level.Moved.{Moved}
-use Rattle.heading.specs.declared.level.Moved.TheVariants.{To, Past}
 use Rattle.heading.specs.declared.walk.LineKind.{LineKind}
 use Rattle.heading.specs.declared.walk.LineKind.TheVariants.{Quoted, Heading, Other}
 use Rattle.heading.proofs.LevelLaws.{moved_level}
@@ -18,7 +17,6 @@ use Rattle.put.specs.Put.{source_text, part_of, Able, Written, Wrote}
 use Rattle.put.specs.NewText.{new_text_at, new_text_of, KindIn}
 use Rattle.put.specs.declared.Source.{Source}
 use Rattle.put.specs.declared.Room.{Room}
-use Rattle.put.specs.declared.Put.{Put}
 use Rattle.put.specs.declared.line.NewText.{NewText}
 use Rattle.text.proofs.PartLaws.{part-part}
 use Rattle.put.proofs.NewTextLaws.{heading-linked, TextIn, text_in}
@@ -40,10 +38,10 @@ module _ (f : List ℕ → List ℕ) (z : ℤ) (s : List ℕ) (a e : ℕ) where
   line_becomes h Quoted o w = absurd o
   line_becomes h (Heading n p q) o w = go (moved_to (pos n +ℤ z)) refl
     where
-      go : (m : Moved) → moved_to (pos n +ℤ z) ≡ m → Becomes (new_text_at m a e p q) (relink f (at_level m (part p q (part a e s)) (part a e s)))
-      go (To zero) y = absurd (omega (arith, moved_level (pos n +ℤ z) zero y))
-      go (To (suc m)) y = rw (part-part s a e p q (omega (arith, w))) (heading-linked f (suc m) (part p q (part a e s)))
-      go Past y = refl
+      go : (m : Option ℕ) → moved_to (pos n +ℤ z) ≡ m → Becomes (new_text_at m a e p q) (relink f (at_level m (part p q (part a e s)) (part a e s)))
+      go (Some zero) y = absurd (omega (arith, moved_level (pos n +ℤ z) zero y))
+      go (Some (suc m)) y = rw (part-part s a e p q (omega (arith, w))) (heading-linked f (suc m) (part p q (part a e s)))
+      go None y = refl
   line_becomes h Other o w = refl
 
 -- such a line put: a heading's hashes and space or nothing, and then its text
@@ -79,7 +77,7 @@ module _ {source : Source} {room : Room} {c w : List ℕ} (able : Able source ro
     pub new_reached : Reached room (level_of new.level ++ relink f (part new.start new.end (source_text source c w))) w v n (relink f (part new.start new.end (source_text source c w)))
     new_reached = level-put able f new.level new.start new.end new_order new_end v n q
 
-    pub new_put : {g : List ℕ → List ℕ} → g ≡ f → (u : List ℕ) (r : Put) → Wrote (room_at room n) (relink g (source_text (part_of source new.start new.end) c v)) v u r → Wrote room whole w u r
+    pub new_put : {g : List ℕ → List ℕ} → g ≡ f → (u : List ℕ) (r : Option ℕ) → Wrote (room_at room n) (relink g (source_text (part_of source new.start new.end) c v)) v u r → Wrote room whole w u r
     new_put same u r h = subst (λ (x : List ℕ). Wrote room x w u r) line-is (text-put able f new.level new.start new.end new_order new_end v n q same u r h)
 
 -- what a line is, by what it is not

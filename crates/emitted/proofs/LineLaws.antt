@@ -1,4 +1,5 @@
 -- Laws of a line put piece after piece: what stands before it, a heading's hashes and space, and its text with its links. Assumes nothing.
+use Rattle.std.specs.Prelude.{Option}
 use Prim.Native.Nat.{ℕ, zero, suc, ◌+◌, ◌≤◌, ◌<◌}
 use native.Mathlib.Omega.{arith}
 use mathlib.Core.Path.{◌≡◌, refl, ap, subst, ◌∙◌}
@@ -11,7 +12,6 @@ use Rattle.link.specs.Links.{relink}
 use Rattle.put.specs.Put.{source_text, part_of, Able, Written, Wrote}
 use Rattle.put.specs.declared.Source.{Source}
 use Rattle.put.specs.declared.Room.{Room}
-use Rattle.put.specs.declared.Put.{Put}
 use Rattle.put.proofs.PutLaws.{Reached, room_at, reached_start, reached_next, reached_over, reached_last, part_same, able_part, able_on}
 use Rattle.emitted.specs.Emitted.{break_before, level_of}
 
@@ -33,7 +33,7 @@ module _ {source : Source} {room : Room} {c w : List ℕ} (able : Able source ro
     pub text_able : Able (part_of source a e) (room_at room k) c v
     text_able = able_part (able_on able level-put) a e order within
 
-    pub text-put : {g : List ℕ → List ℕ} → g ≡ f → (u : List ℕ) (r : Put) → Wrote (room_at room k) (relink g (source_text (part_of source a e) c v)) v u r → Wrote room whole w u r
+    pub text-put : {g : List ℕ → List ℕ} → g ≡ f → (u : List ℕ) (r : Option ℕ) → Wrote (room_at room k) (relink g (source_text (part_of source a e) c v)) v u r → Wrote room whole w u r
     text-put {g} is u r t =
         let s : relink g (source_text (part_of source a e) c v) ≡ relink f (part a e (source_text source c w)) =
         ap (λ (h : List ℕ → List ℕ). relink h (source_text (part_of source a e) c v)) is ∙ ap (relink f) (part_same able level-put a e within) in

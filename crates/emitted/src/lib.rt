@@ -13,15 +13,15 @@ ghost use Rattle.emitted.specs.Emitted.{emitted_line, break_before, level_of, bl
 
 use heading::walk::LineKind;
 use member::lines::LineCursor;
-use put::{Put, Room, Source, line};
+use put::{Room, Source, line};
 
 // A heading's hashes and space, or nothing for level 0.
-fn put_level(level: usize, room: Room, work: &mut [u8]) -> Put
+fn put_level(level: usize, room: Room, work: &mut [u8]) -> Option<usize>
     requires { (level ≤ 6) × ((room.at ≤ room.limit) × (room.limit ≤ length work.old)) }
     ensures { Wrote room (level_of level) work.old work.new result }
 {
     if level == 0 {
-        return Put::To(room.at);
+        return Some(room.at);
     }
     put::put_hashes(level, room, work)
 }
@@ -41,7 +41,7 @@ fn put_line(
     dir: &[u8],
     room: Room,
     work: &mut [u8],
-) -> Put
+) -> Option<usize>
     requires { Able source room contents.now work.old × (AllStand index.now (length contents.now) room.limit (length work.old) set.now count × ((start ≤ end) × ((source.start + end ≤ source.end) × (KindIn (end - start) kind × (mag shift ≤ 7))))) }
     ensures { Wrote room (emitted_line (rewrite_target (titles_in index.now contents.now work.old set.now count) url.now dir.now) shift (record { kind = kind; bytes = part start end (source_text source contents.now work.old) })) work.old work.new result }
 {
@@ -50,8 +50,8 @@ fn put_line(
     }
     let limit = room.limit;
     let new = line::new_text(kind, shift, start, end);
-    let Put::To(at) = put_level(new.level, room, work) else {
-        return Put::Over;
+    let Some(at) = put_level(new.level, room, work) else {
+        return None;
     };
     let text = put::part_of(source, new.start, new.end);
     rewrite::put_links(
@@ -68,19 +68,19 @@ fn put_line(
 }
 
 // What stands before a line that has n lines before it: an LF, or nothing.
-fn put_break(n: usize, room: Room, work: &mut [u8]) -> Put
+fn put_break(n: usize, room: Room, work: &mut [u8]) -> Option<usize>
     requires { (room.at ≤ room.limit) × (room.limit ≤ length work.old) }
     ensures { Wrote room (break_before n) work.old work.new result }
 {
     let at = room.at;
     if n == 0 {
-        return Put::To(at);
+        return Some(at);
     }
     if at == room.limit {
-        return Put::Over;
+        return None;
     }
     work[at] = b'\n';
-    Put::To(at + 1)
+    Some(at + 1)
 }
 
 // The lines between two cursors as they stand, with what stands before them; nothing where there are none.
@@ -91,16 +91,16 @@ pub fn put_block(
     to: LineCursor,
     room: Room,
     work: &mut [u8],
-) -> Put
+) -> Option<usize>
     requires { Able source room contents.now work.old × ((from.at ≤ to.at) × ((to.at ≤ suc (source.end - source.start)) × (from.line < to.line → from.at < to.at))) }
     ensures { Wrote room (block_text (source_text source contents.now work.old) from to) work.old work.new result }
 {
     if to.line <= from.line {
-        return Put::To(room.at);
+        return Some(room.at);
     }
     let limit = room.limit;
-    let Put::To(at) = put_break(from.line, room, work) else {
-        return Put::Over;
+    let Some(at) = put_break(from.line, room, work) else {
+        return None;
     };
     put::put_part(
         contents,
@@ -128,13 +128,13 @@ pub fn put_next(
     dir: &[u8],
     room: Room,
     work: &mut [u8],
-) -> Put
+) -> Option<usize>
     requires { Able source room contents.now work.old × (AllStand index.now (length contents.now) room.limit (length work.old) set.now count × ((start ≤ end) × ((source.start + end ≤ source.end) × (KindIn (end - start) kind × (mag shift ≤ 7))))) }
     ensures { Wrote room (break_before n ++ emitted_line (rewrite_target (titles_in index.now contents.now work.old set.now count) url.now dir.now) shift (record { kind = kind; bytes = part start end (source_text source contents.now work.old) })) work.old work.new result }
 {
     let limit = room.limit;
-    let Put::To(at) = put_break(n, room, work) else {
-        return Put::Over;
+    let Some(at) = put_break(n, room, work) else {
+        return None;
     };
     put_line(
         index,

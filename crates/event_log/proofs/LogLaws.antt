@@ -1,4 +1,5 @@
 -- Laws of `specs/Log.antt`: a word writes the row of its event, and a whole log has the rows of all that was noted. Assumes nothing.
+use Rattle.std.specs.Prelude.{Option, Some, None}
 use Prim.Native.Nat.{ℕ, ◌+◌, ◌≤◌, ◌<◌, ◌/◌, ◌%◌}
 use native.Mathlib.Numerals.{add-one}
 use native.Mathlib.Omega.{arith}
@@ -13,8 +14,6 @@ use Rattle.text.proofs.PatternLaws.{and_left, and_right}
 use Rattle.rows.specs.Row.{row}
 use Rattle.rows.specs.Sheet.{Sheet, write, written}
 use Rattle.event_log.specs.Log.{word, region_kind, span_at, region_at, unpacked, span_word, region_word, holds_span, holds_region, holds_problem, packed, Log, events, added, note}
-use Rattle.event_log.specs.declared.word.Packed.{Packed}
-use Rattle.event_log.specs.declared.word.Packed.TheVariants.{Word, Wide}
 use Rattle.scan.specs.declared.event.Span.{Span}
 use Rattle.scan.specs.declared.event.Region.{Region}
 use Rattle.scan.specs.declared.event.Event.{Event}
@@ -89,21 +88,21 @@ problem_row w n k t h =
     )
 
 -- so does the word that an event is packed into
-word_row : (e : Event) (w : ℕ) (t : Sheet) → packed e ≡ Word w → write (unpacked w) t ≡ write e t
+word_row : (e : Event) (w : ℕ) (t : Sheet) → packed e ≡ Some w → write (unpacked w) t ≡ write e t
 unfolding packed
 word_row (OfSpan x) w t = go (holds_span (span_word x) x) refl
   where
-    go : (b : Bool) → holds_span (span_word x) x ≡ b → cond b (Word (span_word x)) Wide ≡ Word w → write (unpacked w) t ≡ write (OfSpan x) t
+    go : (b : Bool) → holds_span (span_word x) x ≡ b → cond b (Some (span_word x)) None ≡ Some w → write (unpacked w) t ≡ write (OfSpan x) t
     go true h e = let q : span_word x ≡ w = cc in rw q at (span_row (span_word x) x t h)
     go false h e = let z : ◌≡◌ {A = ℕ} 0 1 = cc in absurd (omega arith)
 word_row (OfRegion g) w t = go (holds_region (region_word g) g) refl
   where
-    go : (b : Bool) → holds_region (region_word g) g ≡ b → cond b (Word (region_word g)) Wide ≡ Word w → write (unpacked w) t ≡ write (OfRegion g) t
+    go : (b : Bool) → holds_region (region_word g) g ≡ b → cond b (Some (region_word g)) None ≡ Some w → write (unpacked w) t ≡ write (OfRegion g) t
     go true h e = let q : region_word g ≡ w = cc in rw q at (region_row (region_word g) g t h)
     go false h e = let z : ◌≡◌ {A = ℕ} 0 1 = cc in absurd (omega arith)
 word_row (OfProblem n k) w t = go (holds_problem (word 3 n 0 0 k) n k) refl
   where
-    go : (b : Bool) → holds_problem (word 3 n 0 0 k) n k ≡ b → cond b (Word (word 3 n 0 0 k)) Wide ≡ Word w → write (unpacked w) t ≡ write (OfProblem n k) t
+    go : (b : Bool) → holds_problem (word 3 n 0 0 k) n k ≡ b → cond b (Some (word 3 n 0 0 k)) None ≡ Some w → write (unpacked w) t ≡ write (OfProblem n k) t
     go true h e = let q : word 3 n 0 0 k ≡ w = cc in rw q at (problem_row (word 3 n 0 0 k) n k t h)
     go false h e = let z : ◌≡◌ {A = ℕ} 0 1 = cc in absurd (omega arith)
 
@@ -130,12 +129,12 @@ note-row e l t = go (l.whole && ltb l.words (length l.buffer)) refl (packed e) r
     lost : Log
     lost = record { buffer = l.buffer; words = l.words; whole = false }
 
-    go : (b : Bool) → (l.whole && ltb l.words (length l.buffer)) ≡ b → (p : Packed) → packed e ≡ p
+    go : (b : Bool) → (l.whole && ltb l.words (length l.buffer)) ≡ b → (p : Option ℕ) → packed e ≡ p
         → (cond b (added p l.words l.buffer) lost).whole ≡ true → written (events (cond b (added p l.words l.buffer) lost)) t ≡ write e (written (events l) t)
-    go true q (Word w) k h =
+    go true q (Some w) k h =
         events_more l.buffer l.words w t (ltb-true l.words (length l.buffer) (and_right l.whole _ q))
         ∙ word_row e w (written (events l) t) k
-    go true q Wide k h = absurd (false≢true h)
+    go true q None k h = absurd (false≢true h)
     go false q p k h = absurd (false≢true h)
 
 -- a log's words lie in its buffer
@@ -146,8 +145,8 @@ note-within e l h = go (l.whole && ltb l.words (length l.buffer)) refl (packed e
     lost : Log
     lost = record { buffer = l.buffer; words = l.words; whole = false }
 
-    go : (b : Bool) → (l.whole && ltb l.words (length l.buffer)) ≡ b → (p : Packed)
+    go : (b : Bool) → (l.whole && ltb l.words (length l.buffer)) ≡ b → (p : Option ℕ)
         → (cond b (added p l.words l.buffer) lost).words ≤ length (cond b (added p l.words l.buffer) lost).buffer
-    go true q (Word w) = simp length-set (omega (arith, ltb-true l.words (length l.buffer) (and_right l.whole _ q)))
-    go true q Wide = h
+    go true q (Some w) = simp length-set (omega (arith, ltb-true l.words (length l.buffer) (and_right l.whole _ q)))
+    go true q None = h
     go false q p = h

@@ -1,7 +1,5 @@
 -- Events as words in a log. Nothing here is document 01's: inner functions promise it, and the laws of `proofs/` say that a whole log has what the rows show.
-use Rattle.std.specs.Prelude.{ℕ, ◌+◌, ◌*◌, ◌-◌, ◌/◌, ◌%◌, Bool, true, false, cond, ◌&&◌, List, map, length, take, set, eqb, ltb}
-use Rattle.event_log.specs.declared.word.Packed.{Packed}
-use Rattle.event_log.specs.declared.word.Packed.TheVariants.{Word, Wide}
+use Rattle.std.specs.Prelude.{ℕ, ◌+◌, ◌*◌, ◌-◌, ◌/◌, ◌%◌, Bool, true, false, cond, ◌&&◌, List, map, length, take, set, eqb, ltb, Option, Some, None}
 use Rattle.event_log.specs.declared.word.Kept.{Kept}
 use Rattle.scan.specs.Scan.{span_of}
 use Rattle.scan.specs.declared.event.Span.{Span}
@@ -62,10 +60,10 @@ holds_region w g =
 unfoldable pub holds_problem : ℕ → ℕ → ℕ → Bool
 holds_problem w n k = eqb (w % 4) 3 && (eqb (w / 70368744177664) n && eqb (w / 4 % 2048) k)
 
-unfoldable pub packed : Event → Packed
-packed (OfSpan x) = cond (holds_span (span_word x) x) (Word (span_word x)) Wide
-packed (OfRegion g) = cond (holds_region (region_word g) g) (Word (region_word g)) Wide
-packed (OfProblem n k) = cond (holds_problem (word 3 n 0 0 k) n k) (Word (word 3 n 0 0 k)) Wide
+unfoldable pub packed : Event → Option ℕ
+packed (OfSpan x) = cond (holds_span (span_word x) x) (Some (span_word x)) None
+packed (OfRegion g) = cond (holds_region (region_word g) g) (Some (region_word g)) None
+packed (OfProblem n k) = cond (holds_problem (word 3 n 0 0 k) n k) (Some (word 3 n 0 0 k)) None
 
 -- a log: its buffer, how many words it has, and whether every event so far is among them
 pub record Log : Type 0 where
@@ -79,9 +77,9 @@ log_of k b = record { buffer = b; words = k.words; whole = k.whole }
 abbrev pub events : Log → List Event
 events l = map unpacked (take l.words l.buffer)
 
-abbrev pub added : Packed → ℕ → List ℕ → Log
-added (Word w) n b = record { buffer = set b n w; words = n + 1; whole = true }
-added Wide n b = record { buffer = b; words = n; whole = false }
+abbrev pub added : Option ℕ → ℕ → List ℕ → Log
+added (Some w) n b = record { buffer = set b n w; words = n + 1; whole = true }
+added None n b = record { buffer = b; words = n; whole = false }
 
 unfoldable pub note : Event → Log → Log
 note e l =

@@ -2,14 +2,8 @@
 ghost use Rattle.std.specs.Prelude.{◌≡◌, ◌<◌, length};
 ghost use Rattle.event_log.specs.Log.{word as word_of, gap as gap_of, region_kind, span_at, region_at, span_word, region_word, holds_span, holds_region, holds_problem, packed, unpacked, log_of, added, note as noted};
 
-use scan::event::{Event, LineStart, Part, Region, Span};
-
-#[derive(Clone, Copy)]
-pub enum Packed {
-    Word(usize),
-    // The event has a number that is too large for a word.
-    Wide,
-}
+use scan::event::{Event, LineStart, Region, Span};
+use text::part::Part;
 
 // How many words a log has, and whether every event so far is among them.
 #[derive(Clone, Copy)]
@@ -140,30 +134,30 @@ fn holds_problem(w: usize, line: usize, number: usize) -> bool
 }
 
 // The word of an event, if it gives back what the event's row shows.
-pub fn pack(event: Event) -> Packed
+pub fn pack(event: Event) -> Option<usize>
     ensures { result ≡ packed event }
 {
     match event {
         Event::OfSpan(x) => {
             let w = span_word(x);
             if holds_span(w, x) {
-                return Packed::Word(w);
+                return Some(w);
             }
-            Packed::Wide
+            None
         }
         Event::OfRegion(g) => {
             let w = region_word(g);
             if holds_region(w, g) {
-                return Packed::Word(w);
+                return Some(w);
             }
-            Packed::Wide
+            None
         }
         Event::OfProblem { line, number } => {
             let w = word(3, line, 0, 0, number);
             if holds_problem(w, line, number) {
-                return Packed::Word(w);
+                return Some(w);
             }
-            Packed::Wide
+            None
         }
     }
 }
@@ -185,19 +179,19 @@ pub fn unpack(w: usize) -> Event
 }
 
 // Adds a word to a log that has room for it.
-fn add(log: &mut [usize], words: usize, packed: Packed) -> Kept
+fn add(log: &mut [usize], words: usize, packed: Option<usize>) -> Kept
     requires { words < length log.old }
     ensures { log_of result log.new ≡ added packed words log.old }
 {
     match packed {
-        Packed::Word(w) => {
+        Some(w) => {
             log[words] = w;
             Kept {
                 words: words + 1,
                 whole: true,
             }
         }
-        Packed::Wide => Kept {
+        None => Kept {
             words,
             whole: false,
         },

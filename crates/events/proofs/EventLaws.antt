@@ -1,4 +1,5 @@
 -- Laws of writing: a turn of the writing scan, and the problems at its end. Assumes nothing.
+use Rattle.std.specs.Prelude.{Some, None}
 use Prim.Native.Nat.{ℕ, ◌+◌}
 use mathlib.Core.Path.{◌≡◌, sym, ap, ◌∙◌}
 use mathlib.Core.Bool.{true, false}
@@ -11,7 +12,6 @@ use Rattle.scan.specs.Scan.{events_of, after, kind_at, unclosed, last_of, scan_f
 use Rattle.scan.specs.Skip.{Sought}
 use Rattle.scan.specs.declared.event.Event.{Event}
 use Rattle.scan.specs.declared.event.Event.TheVariants.{OfProblem}
-use Rattle.scan.specs.declared.seek.Seek.TheVariants.{LineAt, TextEnd}
 use Rattle.scan.specs.declared.state.State.{State}
 use Rattle.scan.proofs.ScanLaws.{sought_line, sought_end}
 use Rattle.event_log.specs.Sink.{Sink, put, put_all}
@@ -19,7 +19,7 @@ use Rattle.event_log.proofs.SinkLaws.{all_append}
 
 -- one turn of the writing scan: x is what the whole scan writes
 module _ (s : List ℕ) (a n k b e x : ℕ) (st : State) (t u w : Sink) (i : put_all (scan_from st (n + 1) (lines_from a (drop a s))) t ≡ w) where
-  pub turned : {kind : Kind} {next : State} → Sought s a n (LineAt k b e x) → kind ≡ kind_at st b (part b e s) → u ≡ put_all (events_of st k b (part b e s) kind) t → next ≡ after st k b kind
+  pub turned : {kind : Kind} {next : State} → Sought s a n (Some (record { number = k; start = b; end = e; next = x })) → kind ≡ kind_at st b (part b e s) → u ≡ put_all (events_of st k b (part b e s) kind) t → next ≡ after st k b kind
       → put_all (scan_from next (k + 1) (lines_from x (drop x s))) u ≡ w
   turned {kind} {next} h ek eu en =
       let l : List ℕ = part b e s in
@@ -28,7 +28,7 @@ module _ (s : List ℕ) (a n k b e x : ℕ) (st : State) (t u w : Sink) (i : put
       ∙ ap (λ (es : List Event). put_all es t) (sym (sought_line s a n k b e x st h))
       ∙ i)
 
-  pub ended : Sought s a n TextEnd → u ≡ put_all (last_of st (n + length (lines_from a (drop a s)))) t → u ≡ w
+  pub ended : Sought s a n None → u ≡ put_all (last_of st (n + length (lines_from a (drop a s)))) t → u ≡ w
   ended h eu = eu ∙ ap (λ (es : List Event). put_all es t) (sym (sought_end s a n st h)) ∙ i
 
 -- the problems at the end, after what is put for the open region

@@ -9,18 +9,18 @@ ghost use Rattle.event_log.specs.Sink.{sink, put_all};
 use event_log::sink;
 use event_log::sink::To;
 use scan::event::Event;
-use scan::seek::Seek;
-use scan::state::{OpenRegion, State};
+use scan::seek::LineAt;
+use scan::state::State;
 use scan::{seek, state};
 use text::lines;
 
 // The problem of a region that is open at the end.
-fn put_unclosed(region: OpenRegion, log: &mut [usize], out: &mut [u8], at: To) -> To
+fn put_unclosed(region: Option<Opener>, log: &mut [usize], out: &mut [u8], at: To) -> To
     ensures { sink result log.new out.new ≡ put_all (unclosed_by region) (sink at log.old out.old) }
 {
     match region {
-        OpenRegion::Closed => at,
-        OpenRegion::Open(g) => {
+        None => at,
+        Some(g) => {
             let marker = g.marker;
             let line = marker.line;
             sink::put(log, out, at, Event::OfProblem { line, number: 4 })
@@ -61,19 +61,21 @@ pub fn put_scan(s: &[u8], log: &mut [usize], out: &mut [u8], at: To) -> To
     loop {
         let l = seek::next_line(s, a, n);
         match l {
-            Seek::LineAt {
-                number,
-                start,
-                end,
-                next,
-            } => {
+            Some(
+                LineAt {
+                    number,
+                    start,
+                    end,
+                    next,
+                },
+            ) => {
                 let kind = state::kind_at(st, start, &s[start..end]);
                 to = line_events::put_line(st, number, start, &s[start..end], kind, log, out, to);
                 st = state::after(st, number, start, kind);
                 a = next;
                 n = number;
             }
-            Seek::TextEnd => {
+            None => {
                 return put_last(st, s, a, n, log, out, to);
             }
         }

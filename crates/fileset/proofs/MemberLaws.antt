@@ -1,5 +1,6 @@
 -- Laws of `specs/Members.antt`: the names of a list from a piece on and how many they are, a turn of the walk that finds their records, and the form
 -- of a list by its tests. Assumes nothing.
+use Rattle.std.specs.Prelude.{Some, None}
 use Prim.Native.Nat.{ℕ, suc, ◌+◌, ◌-◌, ◌≤◌, ◌<◌}
 use native.Mathlib.Nat.{add-zero}
 use native.Mathlib.Numerals.{add-one}
@@ -15,12 +16,10 @@ use Rattle.text.specs.Bytes.{part, is, count}
 use Rattle.text.specs.Lines.{LF, pieces, pieces_after}
 use Rattle.text.specs.Pattern.{ends_with}
 use Rattle.text.specs.Split.{split}
-use Rattle.text.specs.declared.pattern.Found.TheVariants.{At, Nothing}
 use Rattle.text.proofs.PatternLaws.{and_right}
 use Rattle.text.proofs.SplitLaws.{split-count}
 use Rattle.index.specs.Index.{Record, find_record}
 use Rattle.fileset.specs.Members.{names, is_list, list_lines, absent_from, members_from}
-use Rattle.fileset.specs.declared.members.ListLines.TheVariants.{Lines, NoList}
 
 -- as many names as LFs
 pub names-count : (s : List ℕ) → length (names s) ≡ count (is LF) s
@@ -38,15 +37,15 @@ module _ (s : List ℕ) (a e : ℕ) {last : Bool} (p : pieces (drop a s) ≡ par
 
 -- a turn of the walk: a name that a record has, and one that none has
 module _ (rs : List Record) {l : List ℕ} {ls ns : List (List ℕ)} (e : ns ≡ l ∷ ls) where
-  pub absent-not : (n k : ℕ) → find_record l rs ≡ At k → absent_from (n + 1) rs ls ≡ absent_from n rs ns
+  pub absent-not : (n k : ℕ) → find_record l rs ≡ Some k → absent_from (n + 1) rs ls ≡ absent_from n rs ns
   unfolding absent_from
   absent-not n k f = rw (e, f)
 
-  pub absent-here : (n : ℕ) → find_record l rs ≡ Nothing → n ≡ absent_from n rs ns
+  pub absent-here : (n : ℕ) → find_record l rs ≡ None → n ≡ absent_from n rs ns
   unfolding absent_from
   absent-here n f = rw (e, f)
 
-  pub members_more : (m : List ℕ) (n k : ℕ) → n < length m → find_record l rs ≡ At k
+  pub members_more : (m : List ℕ) (n k : ℕ) → n < length m → find_record l rs ≡ Some k
       → take (n + 1) (set m n k) ++ members_from rs ls ≡ take n m ++ members_from rs ns
   unfolding members_from
   members_more m n k h f = rw (e, f, add-one, take-suc-set m n k h) (append_assoc (take n m) (k ∷ []) (members_from rs ls))
@@ -63,43 +62,43 @@ module _ (rs : List Record) (n : ℕ) {ns : List (List ℕ)} (e : ns ≡ []) whe
 
 -- the form of a list, and how many lines it has
 module _ (s : List ℕ) where
-  pub list_empty : length s ≡ 0 → Lines 0 ≡ list_lines s
+  pub list_empty : length s ≡ 0 → Some 0 ≡ list_lines s
   unfolding list_lines split
   list_empty h = go s h
     where
-      go : (t : List ℕ) → length t ≡ 0 → Lines 0 ≡ cond (is_list t) (Lines (length (names t))) NoList
+      go : (t : List ℕ) → length t ≡ 0 → Some 0 ≡ cond (is_list t) (Some (length (names t))) None
       go [] k = refl
       go (x ∷ t) k = absurd (omega arith)
 
   module _ (h : length s ≡ 0 → ⊥) {l : Bool} (p : l ≡ ends_with (LF ∷ []) s) where
-    pub list_open : not l ≡ true → NoList ≡ list_lines s
+    pub list_open : not l ≡ true → None ≡ list_lines s
     unfolding list_lines
     list_open e = rw (ne_eqb (length s) 0 h, sym p ∙ not-true l e)
 
     module _ (e : not l ≡ false) {n : ℕ} (q : n ≡ length (names s)) where
-      pub list_long : 64 < n → NoList ≡ list_lines s
+      pub list_long : 64 < n → None ≡ list_lines s
       unfolding list_lines
       list_long k = rw (ne_eqb (length s) 0 h, sym p ∙ not-false l e, ← q, lt-leb n 64 k)
 
-      pub list_closed : n ≤ 64 → Lines n ≡ list_lines s
+      pub list_closed : n ≤ 64 → Some n ≡ list_lines s
       unfolding list_lines
       list_closed k = rw (ne_eqb (length s) 0 h, sym p ∙ not-false l e, ← q, le-leb n 64 k)
 
 -- what an answer tells
 module _ (s : List ℕ) where
-  pub lines_none : NoList ≡ list_lines s → is_list s ≡ false
+  pub lines_none : None ≡ list_lines s → is_list s ≡ false
   unfolding list_lines
   lines_none e = go (is_list s) e
     where
-      go : (b : Bool) → NoList ≡ cond b (Lines (length (names s))) NoList → b ≡ false
+      go : (b : Bool) → None ≡ cond b (Some (length (names s))) None → b ≡ false
       go false h = refl
       go true h = let z : ◌≡◌ {A = ℕ} 0 1 = cc in absurd (omega arith)
 
-  pub lines-some : {n : ℕ} → Lines n ≡ list_lines s → (is_list s ≡ true) × (n ≡ length (names s))
+  pub lines-some : {n : ℕ} → Some n ≡ list_lines s → (is_list s ≡ true) × (n ≡ length (names s))
   unfolding list_lines
   lines-some {n} e = go (is_list s) e
     where
-      go : (b : Bool) → Lines n ≡ cond b (Lines (length (names s))) NoList → (b ≡ true) × (n ≡ length (names s))
+      go : (b : Bool) → Some n ≡ cond b (Some (length (names s))) None → (b ≡ true) × (n ≡ length (names s))
       go true h = (refl, cc)
       go false h = let z : ◌≡◌ {A = ℕ} 0 1 = cc in absurd (omega arith)
 

@@ -1,4 +1,5 @@
 -- The refusals before the walk, and their places: what holds of each of them holds of the one that is given. Assumes nothing.
+use Rattle.std.specs.Prelude.{Result, Ok, Err}
 use Prim.Native.Nat.{ℕ, ◌+◌, ◌≤◌}
 use native.Mathlib.Omega.{arith}
 use mathlib.Core.Path.{◌≡◌, refl}
@@ -16,8 +17,6 @@ use Rattle.index.specs.Index.{is_name, ill_formed, Record, records, file_text}
 use Rattle.index.specs.Records.{past_from, twice_from, wide_from}
 use Rattle.fileset.specs.Members.{names, is_list, absent_from}
 use Rattle.fileset.specs.Check.{in_order, refuse_if, refuse_at, refuse_wide, refuse_sizes, are_sizes, index_checked, head_checked, list_checked, fill_checked, book_checked}
-use Rattle.fileset.specs.declared.check.Checked.{Checked}
-use Rattle.fileset.specs.declared.check.Checked.TheVariants.{Passed, Refused}
 
 -- P of refusals 1 to 6 and 8, at lines from 1 and among so many records
 pub record HeadPlaces (P : Refusal → Type 0) (n : ℕ) : Type 0 where
@@ -30,13 +29,13 @@ pub record HeadPlaces (P : Refusal → Type 0) (n : ℕ) : Type 0 where
   pub sizes : P Sizes
 
 module _ (P : Refusal → Type 0) where
-  abbrev Held : Checked → Type 0
-  Held Passed = Unit {0}
-  Held (Refused x) = P x
+  abbrev Held : Result (Unit {0}) Refusal → Type 0
+  Held (Ok tt) = Unit {0}
+  Held (Err x) = P x
 
-  held-order : (c d : Checked) → Held c → Held d → Held (in_order c d)
-  held-order Passed d h k = k
-  held-order (Refused x) d h k = h
+  held-order : (c d : Result (Unit {0}) Refusal) → Held c → Held d → Held (in_order c d)
+  held-order (Ok tt) d h k = k
+  held-order (Err x) d h k = h
 
   held-if : (b : Bool) (x : Refusal) → P x → Held (refuse_if b x)
   held-if true x h = h
@@ -45,14 +44,14 @@ module _ (P : Refusal → Type 0) where
   held_at : (l : ℕ) (f : ℕ → Refusal) → ((m : ℕ) → 1 ≤ m → P (f m)) → Held (refuse_at l f)
   held_at l f h = go (eqb l 0) refl
     where
-      go : (b : Bool) → eqb l 0 ≡ b → Held (cond b Passed (Refused (f l)))
+      go : (b : Bool) → eqb l 0 ≡ b → Held (cond b (Ok tt) (Err (f l)))
       go true q = tt
       go false q = h l (omega (arith, eqb-false l 0 q))
 
   held_wide : (p : Place) → (1 ≤ p.line → P (WideByte p)) → Held (refuse_wide p)
   held_wide p h = go (eqb p.line 0) refl
     where
-      go : (b : Bool) → eqb p.line 0 ≡ b → Held (cond b Passed (Refused (WideByte p)))
+      go : (b : Bool) → eqb p.line 0 ≡ b → Held (cond b (Ok tt) (Err (WideByte p)))
       go true q = tt
       go false q = h (omega (arith, eqb-false p.line 0 q))
 
@@ -86,13 +85,13 @@ module _ (P : Refusal → Type 0) where
     sizes-held : (m k limit out work : ℕ) → Held (refuse_sizes m k limit out work)
     sizes-held m k limit out work = held-if (not (are_sizes m k limit out work)) Sizes h.sizes
 
-  held-given : (c : Checked) (x : Refusal) → Held c → c ≡ Refused x → P x
-  held-given Passed x h e = let z : ◌≡◌ {A = ℕ} 0 1 = cc in absurd (omega arith)
-  held-given (Refused y) x h e = let q : y ≡ x = cc in rw (← q) h
+  held-given : (c : Result (Unit {0}) Refusal) (x : Refusal) → Held c → c ≡ Err x → P x
+  held-given (Ok tt) x h e = let z : ◌≡◌ {A = ℕ} 0 1 = cc in absurd (omega arith)
+  held-given (Err y) x h e = let q : y ≡ x = cc in rw (← q) h
 
   -- a fill: 5 in the host too
   pub fill_held : (index contents name text : List ℕ) (limit out work : ℕ) (x : Refusal) → HeadPlaces P (length (records index)) → ((l : ℕ) → 1 ≤ l → P (WideByte (place 0 l)))
-      → fill_checked index contents name text limit out work ≡ Refused x → P x
+      → fill_checked index contents name text limit out work ≡ Err x → P x
   unfolding fill_checked
   fill_held index contents name text limit out work x h w e =
       held-given (in_order (head_checked index contents text name) (refuse_sizes (length (records index)) 0 limit out work)) x
@@ -101,7 +100,7 @@ module _ (P : Refusal → Type 0) where
 
   -- an assembly or a book: 7, and 14 over the list
   pub book_held : (index contents list url : List ℕ) (limit out work : ℕ) (x : Refusal) → HeadPlaces P (length (records index)) → P ListForm → ((l : ℕ) → 1 ≤ l → P (Absent (place 0 l)))
-      → book_checked index contents list url limit out work ≡ Refused x → P x
+      → book_checked index contents list url limit out work ≡ Err x → P x
   unfolding book_checked wide_line
   book_held index contents list url limit out work x h f a e =
       held-given (in_order (head_checked index contents [] url) (list_checked (records index) list limit out work)) x

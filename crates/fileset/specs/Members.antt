@@ -1,12 +1,8 @@
 -- Document 01, "Records": "Member list: one name a line, LF after each, 0 to 64 lines; a name may come twice."
-use Rattle.std.specs.Prelude.{ℕ, ◌+◌, ◌-◌, Bool, cond, ◌&&◌, ◌||◌, List, [], ◌∷◌, length, take, eqb, leb}
+use Rattle.std.specs.Prelude.{ℕ, ◌+◌, ◌-◌, Bool, cond, ◌&&◌, ◌||◌, List, [], ◌∷◌, length, take, eqb, leb, Option, Some, None}
 use Rattle.text.specs.Lines.{LF, pieces}
 use Rattle.text.specs.Pattern.{ends_with, is_at}
-use Rattle.text.specs.declared.pattern.Found.{Found}
-use Rattle.text.specs.declared.pattern.Found.TheVariants.{At, Nothing}
 use Rattle.index.specs.Index.{Record, find_record}
-use Rattle.fileset.specs.declared.members.ListLines.{ListLines}
-use Rattle.fileset.specs.declared.members.ListLines.TheVariants.{Lines, NoList}
 
 -- the names: what stands before each LF
 abbrev pub names : List ℕ → List (List ℕ)
@@ -17,8 +13,8 @@ abbrev pub is_list : List ℕ → Bool
 is_list list = (eqb (length list) 0 || ends_with (LF ∷ []) list) && leb (length (names list)) 64
 
 -- for the functions: how many lines a list has
-unfoldable pub list_lines : List ℕ → ListLines
-list_lines list = cond (is_list list) (Lines (length (names list))) NoList
+unfoldable pub list_lines : List ℕ → Option ℕ
+list_lines list = cond (is_list list) (Some (length (names list))) None
 
 -- the first line whose name no record has, or 0; the lines count from n
 unfoldable pub absent_from : ℕ → List Record → List (List ℕ) → ℕ
@@ -26,9 +22,9 @@ absent_from n rs [] = 0
 absent_from n rs (l ∷ ls) = cond (is_at (find_record l rs)) (absent_from (n + 1) rs ls) n
 
 -- the members: for each name its record, counted from 0
-abbrev pub record_found : Found → ℕ
-record_found (At k) = k
-record_found Nothing = 0
+abbrev pub record_found : Option ℕ → ℕ
+record_found (Some k) = k
+record_found None = 0
 
 unfoldable pub members_from : List Record → List (List ℕ) → List ℕ
 members_from rs [] = []

@@ -7,24 +7,9 @@ ghost use Rattle.index.specs.Rows.{records_in, AreNamed, AreRows};
 ghost use Rattle.fileset.specs.Check.{records_checked, index_checked, head_checked, refuse_sizes, list_checked, fill_checked, book_checked, counted, HeadWithin, HeadRead, Read, Listed};
 
 use crate::members;
-use crate::members::ListLines;
 use answer::{Place, Refusal};
-use index::rows::IndexRead;
 use index::{name, records, rows};
 use text::{ascii, bytes};
-
-#[derive(Clone, Copy)]
-pub enum Checked {
-    Passed,
-    Refused(Refusal),
-}
-
-// The checks of the index: how many records it has, or a refusal.
-#[derive(Clone, Copy)]
-pub enum Head {
-    Records(usize),
-    Refused(Refusal),
-}
 
 // The text limit, and how many bytes output and work buffer have.
 #[derive(Clone, Copy)]
@@ -42,33 +27,38 @@ pub fn record_count(index: &[u8]) -> usize
 }
 
 // Refusals 2 to 4.
-fn check_records(index: &[u8], rows: &[usize; 256], count: usize, room: usize) -> Head
+fn check_records(
+    index: &[u8],
+    rows: &[usize; 256],
+    count: usize,
+    room: usize,
+) -> Result<usize, Refusal>
     requires { (count ≡ length (records index.now)) × (count ≤ 64 → AreRows index.now rows.now) }
     ensures value { result ≡ counted (records_checked room (records index.now)) count }
     ensures head_within { HeadWithin room rows.now result }
 {
     if 64 < count {
-        return Head::Refused(Refusal::TooManyRecords);
+        return Err(Refusal::TooManyRecords);
     }
     let past = records::past_line(rows, count, room);
     if past != 0 {
-        return Head::Refused(Refusal::PastContents(past));
+        return Err(Refusal::PastContents(past));
     }
     let twice = records::twice_line(index, rows, count);
     if twice != 0 {
-        return Head::Refused(Refusal::NameTwice(twice));
+        return Err(Refusal::NameTwice(twice));
     }
-    Head::Records(count)
+    Ok(count)
 }
 
 // Refusals 1 to 4. The index is read into the rows.
-fn check_index(index: &[u8], contents: &[u8], rows: &mut [usize; 256]) -> Head
+fn check_index(index: &[u8], contents: &[u8], rows: &mut [usize; 256]) -> Result<usize, Refusal>
     ensures value { result ≡ counted (index_checked index.now contents.now) (length (records index.now)) }
     ensures head_read { HeadRead index.now contents.now rows.new result }
 {
     match rows::read(index, rows) {
-        IndexRead::IllFormedAt(line) => Head::Refused(Refusal::IndexLine(line)),
-        IndexRead::Records(count) => check_records(index, rows, count, contents.len()),
+        Err(line) => Err(Refusal::IndexLine(line)),
+        Ok(count) => check_records(index, rows, count, contents.len()),
     }
 }
 
@@ -79,46 +69,46 @@ fn check_head(
     text: &[u8],
     name: &[u8],
     rows: &mut [usize; 256],
-) -> Head
+) -> Result<usize, Refusal>
     ensures value { result ≡ counted (head_checked index.now contents.now text.now name.now) (length (records index.now)) }
     ensures head_read { HeadRead index.now contents.now rows.new result }
 {
     let head = check_index(index, contents, rows);
-    let Head::Records(count) = head else {
+    let Ok(count) = head else {
         return head;
     };
     let line = ascii::wide_line(text);
     if line != 0 {
-        return Head::Refused(Refusal::WideByte(Place { file: 0, line }));
+        return Err(Refusal::WideByte(Place { file: 0, line }));
     }
     let place = records::wide_place(contents, rows, count);
     if place.line != 0 {
-        return Head::Refused(Refusal::WideByte(place));
+        return Err(Refusal::WideByte(place));
     }
     if !name::is_name(name) {
-        return Head::Refused(Refusal::NameForm);
+        return Err(Refusal::NameForm);
     }
     head
 }
 
 // Refusal 8: the limit is out of its range, or the output has no room for it, or the work buffer none for a text a record and a list line and two more.
-fn check_sizes(count: usize, lines: usize, sizes: Sizes) -> Checked
+fn check_sizes(count: usize, lines: usize, sizes: Sizes) -> Result<(), Refusal>
     requires { (count ≤ 64) × (lines ≤ 64) }
     ensures { result ≡ refuse_sizes count lines sizes.limit sizes.output sizes.work }
 {
     if sizes.limit < 1 {
-        return Checked::Refused(Refusal::Sizes);
+        return Err(Refusal::Sizes);
     }
     if 1048576 < sizes.limit {
-        return Checked::Refused(Refusal::Sizes);
+        return Err(Refusal::Sizes);
     }
     if sizes.output < sizes.limit {
-        return Checked::Refused(Refusal::Sizes);
+        return Err(Refusal::Sizes);
     }
     if sizes.work < (count + lines + 2) * sizes.limit {
-        return Checked::Refused(Refusal::Sizes);
+        return Err(Refusal::Sizes);
     }
-    Checked::Passed
+    Ok(())
 }
 
 // Refusals 7, 8 and 14. The record of each list line goes to the members.
@@ -129,23 +119,23 @@ fn check_list(
     count: usize,
     sizes: Sizes,
     members: &mut [usize; 64],
-) -> Checked
+) -> Result<(), Refusal>
     requires { (count ≤ 64) × AreNamed index.now rows.now count }
     ensures value { result ≡ list_checked (records_in index.now rows.now 0 count) list.now sizes.limit sizes.output sizes.work }
     ensures listed { Listed (records_in index.now rows.now 0 count) list.now members.new result }
 {
-    let ListLines::Lines(lines) = members::list_lines(list) else {
-        return Checked::Refused(Refusal::ListForm);
+    let Some(lines) = members::list_lines(list) else {
+        return Err(Refusal::ListForm);
     };
     let sized = check_sizes(count, lines, sizes);
-    let Checked::Passed = sized else {
+    let Ok(()) = sized else {
         return sized;
     };
     let line = members::read(list, index, rows, count, members);
     if line != 0 {
-        return Checked::Refused(Refusal::Absent(Place { file: 0, line }));
+        return Err(Refusal::Absent(Place { file: 0, line }));
     }
-    Checked::Passed
+    Ok(())
 }
 
 // The refusals of a fill.
@@ -156,13 +146,13 @@ pub fn check_fill(
     text: &[u8],
     sizes: Sizes,
     rows: &mut [usize; 256],
-) -> Checked
+) -> Result<(), Refusal>
     ensures value { result ≡ fill_checked index.now contents.now name.now text.now sizes.limit sizes.output sizes.work }
     ensures read { Read index.now contents.now rows.new result }
 {
     match check_head(index, contents, text, name, rows) {
-        Head::Refused(refusal) => Checked::Refused(refusal),
-        Head::Records(count) => check_sizes(count, 0, sizes),
+        Err(refusal) => Err(refusal),
+        Ok(count) => check_sizes(count, 0, sizes),
     }
 }
 
@@ -175,13 +165,13 @@ pub fn check_book(
     sizes: Sizes,
     rows: &mut [usize; 256],
     members: &mut [usize; 64],
-) -> Checked
+) -> Result<(), Refusal>
     ensures value { result ≡ book_checked index.now contents.now list.now url.now sizes.limit sizes.output sizes.work }
     ensures read { Read index.now contents.now rows.new result }
     ensures listed { Listed (records index.now) list.now members.new result }
 {
     match check_head(index, contents, b"", url, rows) {
-        Head::Refused(refusal) => Checked::Refused(refusal),
-        Head::Records(count) => check_list(list, index, rows, count, sizes, members),
+        Err(refusal) => Err(refusal),
+        Ok(count) => check_list(list, index, rows, count, sizes, members),
     }
 }

@@ -4,15 +4,7 @@ ghost use Rattle.fileset.specs.Members.{names, list_lines, absent_from, members_
 ghost use Rattle.index.specs.Rows.{records_in, AreNamed};
 
 use index::rows;
-use text::pattern::Found;
 use text::{bytes, lines, pattern};
-
-// How many lines a list has, or that it is none.
-#[derive(Clone, Copy)]
-pub enum ListLines {
-    Lines(usize),
-    NoList,
-}
 
 // How many lines a list has.
 pub fn line_count(list: &[u8]) -> usize
@@ -22,20 +14,20 @@ pub fn line_count(list: &[u8]) -> usize
 }
 
 // The same, where each line ends in LF and they are at most 64.
-pub fn list_lines(list: &[u8]) -> ListLines
+pub fn list_lines(list: &[u8]) -> Option<usize>
     ensures { result ≡ list_lines list.now }
 {
     if list.len() == 0 {
-        return ListLines::Lines(0);
+        return Some(0);
     }
     if !pattern::ends_with(list, b"\n") {
-        return ListLines::NoList;
+        return None;
     }
     let n = line_count(list);
     if 64 < n {
-        return ListLines::NoList;
+        return None;
     }
-    ListLines::Lines(n)
+    Some(n)
 }
 
 // Finds the record of each line's name and answers the first line that has none, or 0.
@@ -60,12 +52,12 @@ pub fn read(
             return 0;
         }
         match rows::find(index, rows, count, &list[a..e]) {
-            Found::At(k) => {
+            Some(k) => {
                 members[n] = k;
                 n += 1;
                 a = e + 1;
             }
-            Found::Nothing => {
+            None => {
                 return n + 1;
             }
         }

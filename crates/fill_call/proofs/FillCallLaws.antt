@@ -1,4 +1,5 @@
 -- Laws of the call fill: its answer by what was filled, and what `fill_regions` asks for once the checks pass. Assumes nothing.
+use Rattle.std.specs.Prelude.{Result, Ok, Err}
 use Prim.Native.Nat.{ℕ, suc, ◌+◌, ◌*◌, ◌≤◌}
 use native.Mathlib.Nat.{suc-mul}
 use native.Mathlib.Omega.{arith}
@@ -10,15 +11,14 @@ use Rattle.text.specs.Lines.{LF}
 use Rattle.index.specs.Index.{file_of, records, files_from}
 use Rattle.index.specs.Rows.{records_in}
 use Rattle.fileset.specs.Check.{fill_checked, Passes}
-use Rattle.fileset.specs.declared.check.Checked.TheVariants.{Passed, Refused as Stopped}
 use Rattle.fileset.proofs.CheckLaws.{rows_same}
 use Rattle.fileset.proofs.PassedLaws.{fill_fit}
 use Rattle.listed.proofs.FilesLaws.{rows_ready}
 use Rattle.chains.specs.Chains.{free, no_marks, chain}
 use Rattle.walk.specs.Outcome.{Outcome, refusal}
 use Rattle.chains.specs.Fill.{filled}
-use Rattle.filling.specs.declared.Filled.{Filled}
-use Rattle.filling.specs.declared.Filled.TheVariants.{Text, NoRegion, Refused}
+use Rattle.answer.specs.declared.Answer.{Answer}
+use Rattle.answer.specs.declared.Answer.TheVariants.{Accepted, NoRegion}
 use Rattle.answer.specs.declared.Refusal.{Refusal}
 use Rattle.book.specs.Calls.{fill_outcome}
 use Rattle.give.specs.Given.{read_answer, Fits}
@@ -28,14 +28,14 @@ use Rattle.opening.specs.Opening.{Ready}
 use Rattle.filling.specs.Filling.{read_filled, FilledWithin}
 
 -- a fill's own answer, read
-pub filled_read : (r : Filled) (w : List ℕ) → read_filled r w ≡ read_answer (answered r) w
-filled_read (Text n f) w = refl
-filled_read NoRegion w = refl
-filled_read (Refused x) w = refl
+pub filled_read : (r : Result Answer Refusal) (w : List ℕ) → read_filled r w ≡ read_answer (answered r) w
+filled_read (Ok (Accepted n f)) w = refl
+filled_read (Ok NoRegion) w = refl
+filled_read (Err x) w = refl
 
 -- once the checks pass
 
-module _ (index contents name text rows : List ℕ) (limit out work n : ℕ) (p : fill_checked index contents name text limit out work ≡ Passed)
+module _ (index contents name text rows : List ℕ) (limit out work n : ℕ) (p : fill_checked index contents name text limit out work ≡ (Ok tt))
     (q : Passes index contents rows) (c : n ≡ count (is LF) index) where
   counted : n ≡ length (records index)
   counted = c ∙ q.lines
@@ -59,12 +59,12 @@ module _ (index contents name text rows : List ℕ) (limit out work n : ℕ) (p 
   unfolding fill_outcome
   fill-passed B h = rw (p, ← rows_same q.told counted) h
 
-  pub fill_held : (r : Filled) → FilledWithin r limit → Fits (answered r) out work
-  fill_held (Text m f) h = (omega (arith, (fill_fit index contents name text limit out work p).1.0), omega (arith, roomy))
-  fill_held NoRegion h = tt
-  fill_held (Refused x) h = tt
+  pub fill_held : (r : Result Answer Refusal) → FilledWithin r limit → Fits (answered r) out work
+  fill_held (Ok (Accepted m f)) h = (omega (arith, (fill_fit index contents name text limit out work p).1.0), omega (arith, roomy))
+  fill_held (Ok NoRegion) h = tt
+  fill_held (Err x) h = tt
 
-pub fill-stopped : (index contents name text : List ℕ) (limit B out work : ℕ) {x : Refusal} → Stopped x ≡ fill_checked index contents name text limit out work
+pub fill-stopped : (index contents name text : List ℕ) (limit B out work : ℕ) {x : Refusal} → Err x ≡ fill_checked index contents name text limit out work
     → refusal x ≡ fill_outcome index contents name text limit B out work
 unfolding fill_outcome
 fill-stopped index contents name text limit B out work e = rw (← e)

@@ -6,19 +6,18 @@ ghost use Rattle.book.specs.Calls.{fill_outcome, answer_of, output_after, work_a
 ghost use Rattle.give.specs.Given.{read_answer, Fits};
 ghost use Rattle.fill_call.specs.Answered.{answered};
 
-use answer::Answer;
+use answer::{Answer, Refusal};
 use fileset::check;
-use fileset::check::{Checked, Sizes};
-use filling::Filled;
+use fileset::check::Sizes;
 use opening::Filling;
 
-fn answer_of(got: Filled) -> Answer
+fn answer_of(got: Result<Answer, Refusal>) -> Result<Answer, Refusal>
     ensures { result ≡ answered got }
 {
     match got {
-        Filled::Text { length, files } => Answer::Accepted { length, files },
-        Filled::NoRegion => Answer::NoRegion,
-        Filled::Refused(refusal) => Answer::Refused(refusal),
+        Ok(Answer::Accepted { length, files }) => Ok(Answer::Accepted { length, files }),
+        Ok(Answer::NoRegion) => Ok(Answer::NoRegion),
+        Err(refusal) => Err(refusal),
     }
 }
 
@@ -31,15 +30,15 @@ fn run(
     sizes: Sizes,
     allowance: usize,
     work: &mut [u8],
-) -> Answer
+) -> Result<Answer, Refusal>
     requires { sizes.work ≡ length work.old }
     ensures work_after { read_answer result work.new ≡ fill_outcome index.now contents.now name.now text.now sizes.limit allowance sizes.output sizes.work }
     ensures fits { Fits result sizes.output sizes.work }
 {
     let mut rows = [0usize; 256];
     match check::check_fill(index, contents, name, text, sizes, &mut rows) {
-        Checked::Refused(refusal) => Answer::Refused(refusal),
-        Checked::Passed => {
+        Err(refusal) => Err(refusal),
+        Ok(()) => {
             let at = Filling {
                 number: 0,
                 count: check::record_count(index),
@@ -72,7 +71,7 @@ pub fn fill(
     allowance: usize,
     out: &mut [u8],
     work: &mut [u8],
-) -> Answer
+) -> Result<Answer, Refusal>
     ensures value { result ≡ answer_of (fill_outcome index.now contents.now name.now text.now limit allowance (length out.old) (length work.old)) }
     ensures out_after { out.new ≡ output_after (fill_outcome index.now contents.now name.now text.now limit allowance (length out.old) (length work.old)) out.old }
     ensures work_after { work.new ≡ work_after work.old }

@@ -1,4 +1,5 @@
 -- What a fill comes to by what a scan of its file finds; a file with no region is embedded as it stands. Assumes nothing.
+use Rattle.std.specs.Prelude.{Result, Ok, Err}
 use Prim.Native.Nat.{ℕ, suc, ◌+◌, ◌-◌, ◌≤◌}
 use native.Mathlib.Omega.{arith}
 use mathlib.Core.Path.{◌≡◌, refl, sym, ◌∙◌, ap}
@@ -18,13 +19,13 @@ use Rattle.walk.specs.Steps.{Judged, given, refused, judge}
 use Rattle.shift.specs.Shift.{Told, told_lines}
 use Rattle.regions.specs.Regions.{Regions, regions_from, own_kinds, Scanned, problem, noRegion as unmarked, regions, problems_of, scanned_by, scanned}
 use Rattle.survey.specs.Surveys.{survey_of}
-use Rattle.survey.specs.declared.Surveyed.TheVariants.{Wrong, NoRegion as Bare}
+use Rattle.survey.specs.declared.Surveyed.TheVariants.{NoRegion as Bare}
 use Rattle.survey.proofs.SurveyLaws.{survey_problem, survey_none}
 use Rattle.embedding.specs.Embed.{embedded_lines, embed_told}
 use Rattle.embedding.specs.Unmarked.{Unmarked}
 use Rattle.insertion.specs.Insertion.{inserted_of}
 use Rattle.embedding.proofs.UnmarkedLaws.{unmarked_end}
-use Rattle.filling.specs.declared.Filled.{Filled}
+use Rattle.answer.specs.declared.Answer.{Answer}
 use Rattle.chains.specs.Chains.{file_at, through, found, chain}
 use Rattle.walk.specs.Outcome.{Outcome, text, noRegion, refusal, outcome}
 use Rattle.chains.specs.Fill.{walk, walk_rest, filled}
@@ -40,11 +41,11 @@ module _ (B L n : ℕ) (S : List File) (top : List ℕ) (m : List Bool) (h : Fil
   by-scan y e = ap (filled B L n) (chain_on S top m h room ∙ ap (found S top m h.number (chain_to S top m)) e)
 
   -- 9, 10 or 11
-  pub fill_wrong : (x : Refusal) → Wrong x ≡ survey_of (scanned h) → refusal x ≡ filled B L n (chain S top m h)
+  pub fill_wrong : (x : Refusal) → Err x ≡ survey_of (scanned h) → refusal x ≡ filled B L n (chain S top m h)
   unfolding walk judge
   fill_wrong x e = let p = survey_problem h (sym e) in sym (by-scan (problem x p.others p.behind) p.is)
 
-  pub fill_none : Bare ≡ survey_of (scanned h) → noRegion ≡ filled B L n (chain S top m h)
+  pub fill_none : (Ok Bare) ≡ survey_of (scanned h) → noRegion ≡ filled B L n (chain S top m h)
   fill_none e = sym (by-scan (unmarked h.text) (survey_none h (sym e)))
 
   -- regions: the walk over them
@@ -101,7 +102,7 @@ unfolding embedded_lines
 taken_text L p w y n k len g h i j u = rw (back_take w y L h i len j, back_part w y L h i k, u, lent_all w L)
 
 -- the same in the buffer that has come back
-pub taken_back : (L : ℕ) (p : Place) (w y : List ℕ) (len : ℕ) (g : List Told → Part (List (List ℕ))) (s : List ℕ) (n : ℕ) (got : Filled) (o : Outcome)
+pub taken_back : (L : ℕ) (p : Place) (w y : List ℕ) (len : ℕ) (g : List Told → Part (List (List ℕ))) (s : List ℕ) (n : ℕ) (got : Result Answer Refusal) (o : Outcome)
     → L ≤ length w → length y ≡ length w - L → len ≤ L → read_filled got y ≡ o
     → taken_in L p (take len (take L w ++ (y ++ drop (length w - L) (drop L w)))) g s n (read_filled got (drop L (take L w ++ (y ++ drop (length w - L) (drop L w))))) ≡ taken_in L p (take len w) g s n o
 taken_back L p w y len g s n got o h i j e = rw (back_take w y L h i len j, back_drop w y L h i, e)

@@ -1,4 +1,5 @@
 -- One region of a host in the loop of a fill: what is put before it, where it leads, what its file becomes behind it; and the lines behind the last region. Assumes nothing.
+use Rattle.std.specs.Prelude.{Option, Some, None, Ok, Err}
 use Prim.Native.Nat.{ℕ, suc, ◌<◌}
 use native.Mathlib.Omega.{arith}
 use mathlib.Core.Path.{◌≡◌, refl, sym, ◌∙◌, ap}
@@ -15,8 +16,6 @@ use Rattle.text.specs.Lines.{led}
 use Rattle.text.specs.Split.{join}
 use Rattle.text.specs.Pattern.{equals}
 use Rattle.text.proofs.LedLaws.{text_more}
-use Rattle.text.specs.declared.pattern.Found.{Found}
-use Rattle.text.specs.declared.pattern.Found.TheVariants.{At, Nothing}
 use Rattle.index.specs.Index.{File, find_file}
 use Rattle.walk.specs.Parts.{Part, good, flawed, unless}
 use Rattle.walk.specs.Steps.{Judged, given, refused, judge}
@@ -24,7 +23,6 @@ use Rattle.walk.proofs.StepsLaws.{judge_then}
 use Rattle.regions.specs.Regions.{HostRegion, Regions, behind, region}
 use Rattle.embedding.specs.Embed.{embed, embed_told, embedded_lines}
 use Rattle.insertion.specs.Insertion.{joined, stopped, inserted_of, tested}
-use Rattle.opening.specs.declared.Named.TheVariants.{File as Names, Refused as Unnamed}
 use Rattle.chains.specs.Chains.{Chain, Rest, file_at, Next, stop, on, next, next_found, through, text_of, next_named}
 use Rattle.walk.specs.Outcome.{Outcome, text, noRegion, refusal, outcome}
 use Rattle.chains.specs.Fill.{walk, walk_rest}
@@ -43,14 +41,14 @@ clash e = let z : ◌≡◌ {A = ℕ} 0 1 = cc in omega arith
 pub next-name : (S : List File) (top : List ℕ) (m : List Bool) (p : Place) (name : List ℕ) (d : ℕ) → next_named S top m p name ≡ on d → (file_at S d).name ≡ name
 next-name S top m p name d e = at_name (equals top name) (find_file name S) refl e
   where
-    at_mark : (k : ℕ) (b : Bool) → find_file name S ≡ At k → cond b (stop (OnChain p)) (on k) ≡ on d → (file_at S d).name ≡ name
+    at_mark : (k : ℕ) (b : Bool) → find_file name S ≡ Some k → cond b (stop (OnChain p)) (on k) ≡ on d → (file_at S d).name ≡ name
     at_mark k true q h = let z : ◌≡◌ {A = ℕ} 0 1 = cc in absurd (omega arith)
     at_mark k false q h = let e : k ≡ d = cc in rw (← e) (find-name name S k q)
 
-    at_name : (b : Bool) (o : Found) → find_file name S ≡ o → cond b (stop (OnChain p)) (next_found m p o) ≡ on d → (file_at S d).name ≡ name
+    at_name : (b : Bool) (o : Option ℕ) → find_file name S ≡ o → cond b (stop (OnChain p)) (next_found m p o) ≡ on d → (file_at S d).name ≡ name
     at_name true o q h = let z : ◌≡◌ {A = ℕ} 0 1 = cc in absurd (omega arith)
-    at_name false (At k) q h = at_mark k (get_or m k false) q h
-    at_name false Nothing q h = let z : ◌≡◌ {A = ℕ} 0 1 = cc in absurd (omega arith)
+    at_name false (Some k) q h = at_mark k (get_or m k false) q h
+    at_name false None q h = let z : ◌≡◌ {A = ℕ} 0 1 = cc in absurd (omega arith)
 
 -- `headed`, by a region's faults
 abbrev allows : List Refusal → Part (List (List ℕ))
@@ -78,7 +76,7 @@ module _ (B L n : ℕ) (S : List File) (top : List ℕ) (m : List Bool) (k : ℕ
       after : Next → Judged (List ℕ)
       after y = judge_next B L n S g more (through S top m k more rs) (ls ++ g.before) y
 
-      at_test : (b : Bool) (d : ℕ) → cond b (going_on d) (refused (Allowance g.opener)) ≡ or_barred (entered (text_of (ls ++ g.before)) (cond b (Names d) (Unnamed (Allowance g.opener)))) going_on
+      at_test : (b : Bool) (d : ℕ) → cond b (going_on d) (refused (Allowance g.opener)) ≡ or_barred (entered (text_of (ls ++ g.before)) (cond b (Ok d) (Err (Allowance g.opener)))) going_on
       at_test true d = refl
       at_test false d = refl
 

@@ -1,5 +1,5 @@
 -- Filling, for the functions. Nothing here is document 01's: inner functions promise it, and the laws of `proofs/` tie it to the walk.
-use Rattle.std.specs.Prelude.{ℕ, suc, ◌+◌, ◌*◌, ◌≤◌, ◌<◌, ◌≡◌, Bool, true, false, List, [], length, take, get_or, set}
+use Rattle.std.specs.Prelude.{ℕ, suc, ◌+◌, ◌*◌, ◌≤◌, ◌<◌, ◌≡◌, Bool, true, false, List, [], length, take, get_or, set, Result, Ok, Err}
 use Rattle.answer.specs.Answer.{place}
 use Rattle.answer.specs.declared.Place.{Place}
 use Rattle.text.specs.Lines.{pieces}
@@ -12,8 +12,9 @@ use Rattle.walk.specs.Parts.{Part}
 use Rattle.walk.specs.Steps.{Judged, given, refused, judge}
 use Rattle.embedding.specs.Embed.{embedded_lines, embed_told}
 use Rattle.insertion.specs.Insertion.{Joined, joined, stopped, inserted_of}
-use Rattle.filling.specs.declared.Filled.{Filled}
-use Rattle.filling.specs.declared.Filled.TheVariants.{Text, NoRegion, Refused}
+use Rattle.answer.specs.declared.Answer.{Answer}
+use Rattle.answer.specs.declared.Refusal.{Refusal}
+use Rattle.answer.specs.declared.Answer.TheVariants.{Accepted, NoRegion}
 use Rattle.filling.specs.declared.NextFile.{NextFile}
 use Rattle.filling.specs.declared.NextFile.TheVariants.{Into, Done}
 use Rattle.opening.specs.declared.Filling.{Filling}
@@ -23,16 +24,16 @@ use Rattle.walk.specs.Outcome.{Outcome, text, noRegion, refusal, outcome}
 use Rattle.chains.specs.Fill.{walk, walk_rest}
 
 -- a fill's answer, with the buffer that begins with its text
-abbrev pub read_filled : Filled → List ℕ → Outcome
-read_filled (Text n f) w = text (take n w) f
-read_filled NoRegion w = noRegion
-read_filled (Refused x) w = refusal x
+abbrev pub read_filled : Result Answer Refusal → List ℕ → Outcome
+read_filled (Ok (Accepted n f)) w = text (take n w) f
+read_filled (Ok NoRegion) w = noRegion
+read_filled (Err x) w = refusal x
 
 -- the text of an answer is within the limit
-abbrev pub FilledWithin : Filled → ℕ → Type 0
-FilledWithin (Text n f) limit = n ≤ limit
-FilledWithin NoRegion limit = Unit {0}
-FilledWithin (Refused x) limit = Unit {0}
+abbrev pub FilledWithin : Result Answer Refusal → ℕ → Type 0
+FilledWithin (Ok (Accepted n f)) limit = n ≤ limit
+FilledWithin (Ok NoRegion) limit = Unit {0}
+FilledWithin (Err x) limit = Unit {0}
 
 -- a running text with the files taken in, or a refusal
 abbrev pub with_files : ℕ → Joined → Outcome
@@ -107,7 +108,7 @@ pub record CanGo (index rows : List ℕ) (n : ℕ) (s : List ℕ) (c : HostCurso
   pub room : limit ≤ w
 
 -- what a fill gave can be embedded: its text lies past the limit
-pub record CanTake (got : Filled) (target len limit w : ℕ) : Type 0 where
+pub record CanTake (got : Result Answer Refusal) (target len limit w : ℕ) : Type 0 where
   pub given : FilledWithin got limit
   pub least : 1 ≤ target
   pub most : target ≤ 7

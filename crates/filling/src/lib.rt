@@ -8,19 +8,10 @@ ghost use Rattle.insertion.specs.Insertion.{read_inserted, Within, tested};
 ghost use Rattle.opening.specs.Opening.{files_in};
 ghost use Rattle.filling.specs.Filling.{read_filled, FilledWithin, with_files, FoundNext, CanGo};
 
-use answer::{Place, Refusal};
-use insertion::Inserted;
+use answer::{Answer, Place, Refusal};
 use opening::{Filling, Opened};
 use regions::host;
-use regions::host::{HostCursor, NextHost};
-
-// A fill's answer: how long the text at the front of its buffer is and how many files were taken in, no region, or a refusal.
-#[derive(Clone, Copy)]
-pub enum Filled {
-    Text { length: usize, files: usize },
-    NoRegion,
-    Refused(Refusal),
-}
+use regions::host::HostCursor;
 
 // Where a region stands: the opener's line, the target level, and how long the text through the opener is.
 #[derive(Clone, Copy)]
@@ -38,22 +29,28 @@ pub enum NextFile {
         spot: Spot,
         behind: HostCursor,
     },
-    Done(Filled),
+    Done(Result<Answer, Refusal>),
 }
 
 // How long the running text is, with the files taken in, or its refusal.
-pub fn with_files(put: Inserted, files: usize) -> Filled
+pub fn with_files(put: Result<usize, Refusal>, files: usize) -> Result<Answer, Refusal>
     ensures by_index { (w : List ℕ) → read_filled result w ≡ with_files files (read_inserted put w) }
     ensures by_index_2 { (limit : ℕ) → Within put limit → FilledWithin result limit }
 {
     match put {
-        Inserted::To(length) => Filled::Text { length, files },
-        Inserted::Refused(refusal) => Filled::Refused(refusal),
+        Ok(length) => Ok(Answer::Accepted { length, files }),
+        Err(refusal) => Err(refusal),
     }
 }
 
 // The host's bytes behind the last region; 17 at line 0.
-fn fill_last(s: &[u8], from: usize, at: Filling, len: usize, work: &mut [u8]) -> Filled
+fn fill_last(
+    s: &[u8],
+    from: usize,
+    at: Filling,
+    len: usize,
+    work: &mut [u8],
+) -> Result<Answer, Refusal>
     requires { (from ≤ length s.now) × ((len ≤ at.limit) × (at.limit ≤ length work.old)) }
     ensures work_after { read_filled result work.new
         ≡ with_files at.used (tested at.limit (place at.number 0) (take len work.old ++ part from (length s.now) s.now)) }
@@ -87,10 +84,10 @@ pub fn next_file(
 {
     let from = c.from;
     match host::next_host(s, c) {
-        NextHost::Whole(o, behind) => match opening::open_region(
+        Some((o, behind)) => match opening::open_region(
             index, rows, top, marks, s, from, o, at, len, work,
         ) {
-            Opened::Onto { file, length } => {
+            Ok(Opened { file, length }) => {
                 let spot = Spot {
                     line: o.line,
                     target: o.target,
@@ -98,8 +95,8 @@ pub fn next_file(
                 };
                 NextFile::Into { file, spot, behind }
             }
-            Opened::Refused(refusal) => NextFile::Done(Filled::Refused(refusal)),
+            Err(refusal) => NextFile::Done(Err(refusal)),
         },
-        NextHost::NoMore => NextFile::Done(fill_last(s, from, at, len, work)),
+        None => NextFile::Done(fill_last(s, from, at, len, work)),
     }
 }

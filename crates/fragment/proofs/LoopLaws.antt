@@ -1,4 +1,5 @@
 -- The loop of a fill over the regions of its host, with the cursor and the buffer. Assumes nothing.
+use Rattle.std.specs.Prelude.{Result, Ok, Err}
 use Prim.Native.Nat.{ℕ, suc, ◌-◌, ◌≤◌, ◌<◌}
 use native.Mathlib.Omega.{arith}
 use mathlib.Core.Path.{◌≡◌, refl, sym, ◌∙◌, ap}
@@ -9,13 +10,14 @@ use Rattle.index.specs.Index.{File, file_of}
 use Rattle.walk.specs.Steps.{Judged, judge}
 use Rattle.regions.specs.Regions.{scanned}
 use Rattle.survey.specs.declared.Surveyed.{Surveyed}
-use Rattle.survey.specs.declared.Surveyed.TheVariants.{Wrong, NoRegion as Bare, Regions}
+use Rattle.survey.specs.declared.Surveyed.TheVariants.{NoRegion as Bare, Regions}
 use Rattle.survey.specs.Surveys.{survey_of}
 use Rattle.regions.specs.Hosts.{start_cursor, host_rest, HostAt}
 use Rattle.regions.specs.declared.host.HostCursor.{HostCursor}
 use Rattle.opening.specs.declared.Filling.{Filling}
-use Rattle.filling.specs.declared.Filled.{Filled}
-use Rattle.filling.specs.declared.Filled.TheVariants.{Text, NoRegion, Refused}
+use Rattle.answer.specs.declared.Answer.{Answer}
+use Rattle.answer.specs.declared.Refusal.{Refusal}
+use Rattle.answer.specs.declared.Answer.TheVariants.{Accepted, NoRegion}
 use Rattle.taking.specs.declared.Stand.{Stand}
 use Rattle.taking.specs.declared.Stand.TheVariants.{On, Done}
 use Rattle.chains.specs.Chains.{chain}
@@ -45,7 +47,7 @@ pub record Loop (S : List File) (top : List ℕ) (m : List Bool) (name s : List 
   pub comes : outcome (whole_of S top m name s at) ≡ fill_of S top m name s at
 
 -- or the fill is done
-pub record Over (S : List File) (top : List ℕ) (m : List Bool) (name s : List ℕ) (at : Filling) (room : ℕ) (work : List ℕ) (r : Filled) : Type 0 where
+pub record Over (S : List File) (top : List ℕ) (m : List Bool) (name s : List ℕ) (at : Filling) (room : ℕ) (work : List ℕ) (r : Result Answer Refusal) : Type 0 where
   pub kept : length work ≡ room
   pub same : read_filled r work ≡ fill_of S top m name s at
   pub fits : FilledWithin r at.limit
@@ -63,10 +65,10 @@ module _ (S : List File) (top : List ℕ) (m : List Bool) (name s : List ℕ) (a
   pub stands-first : (work : List ℕ) (r : Stand) → length S ≤ length m → r ≡ first_of at.used (survey_of (scanned (file_of at.number name s))) → Stands S top m name s at (length work) work r
   stands-first work r h e = rw e (at-survey (survey_of (scanned (file_of at.number name s))) refl)
     where
-      at-survey : (y : Surveyed) → y ≡ survey_of (scanned (file_of at.number name s)) → Stands S top m name s at (length work) work (first_of at.used y)
-      at-survey (Wrong x) q = record { kept = refl; same = fill_wrong at.allowance at.limit at.used S top m (file_of at.number name s) h x q; fits = tt }
-      at-survey Bare q = record { kept = refl; same = fill_none at.allowance at.limit at.used S top m (file_of at.number name s) h q; fits = tt }
-      at-survey Regions q = record {
+      at-survey : (y : Result Surveyed Refusal) → y ≡ survey_of (scanned (file_of at.number name s)) → Stands S top m name s at (length work) work (first_of at.used y)
+      at-survey (Err x) q = record { kept = refl; same = fill_wrong at.allowance at.limit at.used S top m (file_of at.number name s) h x q; fits = tt }
+      at-survey (Ok Bare) q = record { kept = refl; same = fill_none at.allowance at.limit at.used S top m (file_of at.number name s) h q; fits = tt }
+      at-survey (Ok Regions) q = record {
         cursor = host-start s;
         fits = omega arith;
         kept = refl;
@@ -76,21 +78,21 @@ module _ (S : List File) (top : List ℕ) (m : List Bool) (name s : List ℕ) (a
       }
 
   module _ (room : ℕ) (work : List ℕ) (d : HostCursor) (kept : length work ≡ room) (cursor : HostAt s d) (comes : outcome (whole_of S top m name s at) ≡ fill_of S top m name s at) where
-    by_turn : (r : Filled) → Turned at.allowance at.limit (whole_of S top m name s at) (rest_at S top m name s at.number d) d.from (read_filled r work) → FilledWithin r at.limit
+    by_turn : (r : Result Answer Refusal) → Turned at.allowance at.limit (whole_of S top m name s at) (rest_at S top m name s at.number d) d.from (read_filled r work) → FilledWithin r at.limit
         → Stands S top m name s at room work (after_of r d)
-    by_turn (Text n f) t h = record { cursor = cursor; fits = h; kept = kept; running = t; comes = comes }
-    by_turn NoRegion t h = absurd t
-    by_turn (Refused x) t h = record { kept = kept; same = sym (ap outcome t) ∙ comes; fits = tt }
+    by_turn (Ok (Accepted n f)) t h = record { cursor = cursor; fits = h; kept = kept; running = t; comes = comes }
+    by_turn (Ok NoRegion) t h = absurd t
+    by_turn (Err x) t h = record { kept = kept; same = sym (ap outcome t) ∙ comes; fits = tt }
 
-    pub stands_after : (r : Filled) (y : Stand) (o : Outcome) → y ≡ after_of r d → read_filled r work ≡ o
+    pub stands_after : (r : Result Answer Refusal) (y : Stand) (o : Outcome) → y ≡ after_of r d → read_filled r work ≡ o
         → Turned at.allowance at.limit (whole_of S top m name s at) (rest_at S top m name s at.number d) d.from o → FilledWithin r at.limit
         → Stands S top m name s at room work y
     stands_after r y o e q t h = rw e (by_turn r (rw q t) h)
 
-pub left_less : (s : List ℕ) (c d : HostCursor) (r : Filled) (y : Stand) → y ≡ after_of r d → c.at < d.at → d.at ≤ length s → left s y < suc (length s - c.at)
+pub left_less : (s : List ℕ) (c d : HostCursor) (r : Result Answer Refusal) (y : Stand) → y ≡ after_of r d → c.at < d.at → d.at ≤ length s → left s y < suc (length s - c.at)
 left_less s c d r y e h k = rw e (go r)
   where
-    go : (r : Filled) → left s (after_of r d) < suc (length s - c.at)
-    go (Text n f) = omega arith
-    go NoRegion = omega arith
-    go (Refused x) = omega arith
+    go : (r : Result Answer Refusal) → left s (after_of r d) < suc (length s - c.at)
+    go (Ok (Accepted n f)) = omega arith
+    go (Ok NoRegion) = omega arith
+    go (Err x) = omega arith

@@ -12,8 +12,8 @@ ghost use Rattle.chains.specs.Fill.{walk, filled};
 ghost use Rattle.opening.specs.Opening.{files_in, Ready};
 ghost use Rattle.filling.specs.Filling.{read_filled, FilledWithin, embedded_by, chain_to, CanEmbed};
 
-use answer::Place;
-use filling::{Filled, NextFile, Spot};
+use answer::{Answer, Place, Refusal};
+use filling::{NextFile, Spot};
 use index::rows;
 use insertion::Insertion;
 use opening::Filling;
@@ -32,7 +32,7 @@ fn embed(
     at: Filling,
     spot: Spot,
     work: &mut [u8],
-) -> Filled
+) -> Result<Answer, Refusal>
     requires { Ready index.now rows.now (length contents.now) at.count × ((at.used < at.allowance) × CanEmbed marks at.count file spot.target spot.len at.limit (length work.old)) }
     ensures work_after { read_filled result work.new ≡ embedded_by at.limit (place at.number spot.line) (take spot.len work.old)
         (embed_told host.now (file_at (files_in index.now rows.now contents.now at.count) file).name spot.target
@@ -91,7 +91,7 @@ pub fn fill_regions(
     s: &[u8],
     at: Filling,
     work: &mut [u8],
-) -> Filled
+) -> Result<Answer, Refusal>
     requires { Ready index.now rows.now (length contents.now) at.count × (suc (free (take at.count marks)) * at.limit ≤ length work.old) }
     ensures work_after { read_filled result work.new ≡ filled at.allowance at.limit at.used
         (chain (files_in index.now rows.now contents.now at.count) top.now marks (file_of at.number name.now s.now)) }

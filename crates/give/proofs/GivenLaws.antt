@@ -1,4 +1,5 @@
 -- Laws of what a call gives: its answer and its output by what its inner run left at the front of the work buffer. Assumes nothing.
+use Rattle.std.specs.Prelude.{Result, Ok, Err}
 use Prim.Native.Nat.{ℕ, ◌+◌, ◌≤◌}
 use native.Mathlib.Omega.{arith}
 use mathlib.Core.Path.{◌≡◌, refl, sym, ◌∙◌, ap}
@@ -6,23 +7,22 @@ use mathlib.Core.List.{List, ◌++◌}
 use lib.ListN.{length, take, drop, replicate}
 use lib.Seq.{sets, sets-eq, length-take-le}
 use Rattle.answer.specs.declared.Answer.{Answer}
-use Rattle.answer.specs.declared.Answer.TheVariants.{Accepted, NoRegion, Refused}
+use Rattle.answer.specs.declared.Refusal.{Refusal}
+use Rattle.answer.specs.declared.Answer.TheVariants.{Accepted, NoRegion}
 use Rattle.walk.specs.Outcome.{Outcome}
 use Rattle.assembly.specs.Parts.{read_assembled, AssembledWithin}
-use Rattle.joining.specs.declared.Assembled.{Assembled}
-use Rattle.joining.specs.declared.Assembled.TheVariants.{Text, Refused as Stopped}
 use Rattle.book.specs.Calls.{answer_of, output_after, work_after}
 use Rattle.give.specs.Given.{assembled, read_answer, copied, Fits}
 
-answer_read : (a : Answer) (w : List ℕ) (out : ℕ) → Fits a out (length w) → a ≡ answer_of (read_answer a w)
-answer_read (Accepted n f) w out h = ap (λ (k : ℕ). Accepted k f) (sym (length-take-le n w h.1))
-answer_read NoRegion w out h = refl
-answer_read (Refused x) w out h = refl
+answer_read : (a : Result Answer Refusal) (w : List ℕ) (out : ℕ) → Fits a out (length w) → a ≡ answer_of (read_answer a w)
+answer_read (Ok (Accepted n f)) w out h = ap (λ (k : ℕ). Ok (Accepted k f)) (sym (length-take-le n w h.1))
+answer_read (Ok NoRegion) w out h = refl
+answer_read (Err x) w out h = refl
 
-output_read : (a : Answer) (w out : List ℕ) → Fits a (length out) (length w) → copied a w out ≡ output_after (read_answer a w) out
-output_read (Accepted n f) w out h = ap (λ (k : ℕ). take n w ++ drop k out) (sym (length-take-le n w h.1))
-output_read NoRegion w out h = refl
-output_read (Refused x) w out h = refl
+output_read : (a : Result Answer Refusal) (w out : List ℕ) → Fits a (length out) (length w) → copied a w out ≡ output_after (read_answer a w) out
+output_read (Ok (Accepted n f)) w out h = ap (λ (k : ℕ). take n w ++ drop k out) (sym (length-take-le n w h.1))
+output_read (Ok NoRegion) w out h = refl
+output_read (Err x) w out h = refl
 
 -- a text copied to the front of a buffer
 pub copied-front : (n : ℕ) (w out : List ℕ) → n ≤ length w → n ≤ length out → sets out 0 (take n w) ≡ take n w ++ drop n out
@@ -31,21 +31,21 @@ copied-front n w out h k =
     sets-eq (take n w) out 0 (omega arith) ∙ ap (λ (m : ℕ). take n w ++ drop m out) e
 
 -- an assembly's own answer, read, and the room that its text takes
-pub assembled_read : (files : ℕ) (r : Assembled) (w : List ℕ) → read_assembled files r w ≡ read_answer (assembled files r) w
-assembled_read files (Text n) w = refl
-assembled_read files (Stopped x) w = refl
+pub assembled_read : (files : ℕ) (r : Result ℕ Refusal) (w : List ℕ) → read_assembled files r w ≡ read_answer (assembled files r) w
+assembled_read files (Ok n) w = refl
+assembled_read files (Err x) w = refl
 
-pub assembled-fits : (files : ℕ) (r : Assembled) (limit : ℕ) → AssembledWithin r limit → Fits (assembled files r) limit limit
-assembled-fits files (Text n) limit h = (h, h)
-assembled-fits files (Stopped x) limit h = tt
+pub assembled-fits : (files : ℕ) (r : Result ℕ Refusal) (limit : ℕ) → AssembledWithin r limit → Fits (assembled files r) limit limit
+assembled-fits files (Ok n) limit h = (h, h)
+assembled-fits files (Err x) limit h = tt
 
-pub fits_more : (a : Answer) (limit out work : ℕ) → limit ≤ out → limit ≤ work → Fits a limit limit → Fits a out work
-fits_more (Accepted n f) limit out work h k l = (omega arith, omega arith)
-fits_more NoRegion limit out work h k l = tt
-fits_more (Refused x) limit out work h k l = tt
+pub fits_more : (a : Result Answer Refusal) (limit out work : ℕ) → limit ≤ out → limit ≤ work → Fits a limit limit → Fits a out work
+fits_more (Ok (Accepted n f)) limit out work h k l = (omega arith, omega arith)
+fits_more (Ok NoRegion) limit out work h k l = tt
+fits_more (Err x) limit out work h k l = tt
 
 -- a call whose inner run left w in place of the work buffer v, as long, comes to o, and gives that
-module _ (a : Answer) (w v : List ℕ) (kept : length w ≡ length v) where
+module _ (a : Result Answer Refusal) (w v : List ℕ) (kept : length w ≡ length v) where
   pub call_fits : (out : ℕ) → Fits a out (length v) → Fits a out (length w)
   call_fits out h = rw kept h
 

@@ -1,6 +1,7 @@
 -- Laws of levels: the lesser of two levels; the shift, where what the machine computes is the sum in ℤ, since both are small; the bytes of a heading
 -- line, written one after the other; levels found along the walk, which are 1 to 6; and a turn of the walk that looks for the shallowest heading.
 -- Assumes nothing.
+use Rattle.std.specs.Prelude.{Option, Some, None}
 use Prim.Native.Nat.{ℕ, zero, suc, ◌+◌, ◌-◌, ◌^◌, ◌≤◌, ◌<◌, min}
 use native.Mathlib.Nat.{min-eq_left, min-eq_right}
 use native.Mathlib.Numerals.{add-one}
@@ -21,19 +22,16 @@ use Rattle.buffer.proofs.BufferLaws.{sets_append}
 use Rattle.fence.specs.declared.Fence.{Fence}
 use Rattle.heading.specs.Walk.{step_kind, step_after, kinds_from}
 use Rattle.heading.specs.Level.{least, shallower, shallowest_of, moved_to, heading_line, IsLevel}
-use Rattle.heading.specs.declared.level.TopLevel.{TopLevel}
-use Rattle.heading.specs.declared.level.TopLevel.TheVariants.{Level, NoHeading}
-use Rattle.heading.specs.declared.level.Moved.TheVariants.{To, Past}
 use Rattle.heading.specs.declared.walk.LineKind.{LineKind}
 use Rattle.heading.specs.declared.walk.LineKind.TheVariants.{Quoted, Heading, Other}
 use Rattle.heading.specs.declared.walk.WalkState.{WalkState}
 use Rattle.heading.proofs.WalkLaws.{kind-within}
 
 -- the lesser level
-pub least_new : (n m : ℕ) → n < m → Level n ≡ least n (Level m)
+pub least_new : (n m : ℕ) → n < m → Some n ≡ least n (Some m)
 least_new n m h = let e : min n m ≡ n = min-eq_left (omega arith) in rw e
 
-pub least_old : (n m : ℕ) → m ≤ n → Level m ≡ least n (Level m)
+pub least_old : (n m : ℕ) → m ≤ n → Some m ≡ least n (Some m)
 least_old n m h = let e : min n m ≡ m = min-eq_right (omega arith) in rw e
 
 -- machine sums and differences of small numbers
@@ -79,23 +77,23 @@ moved l s h k =
 clash : true ≡ false → ⊥
 clash e = let z : ◌≡◌ {A = ℕ} 0 1 = cc in omega arith
 
-pub low : (z : ℤ) → lt_z z (pos 1) ≡ true → Past ≡ moved_to z
+pub low : (z : ℤ) → lt_z z (pos 1) ≡ true → None ≡ moved_to z
 low (pos n) h = let l : n < 1 = ltb-true n 1 h in simp (lt-leb 1 n l)
 low (negsuc n) h = refl
 
-pub high : (z : ℤ) → lt_z z (pos 1) ≡ false → lt_z (pos 6) z ≡ true → Past ≡ moved_to z
+pub high : (z : ℤ) → lt_z z (pos 1) ≡ false → lt_z (pos 6) z ≡ true → None ≡ moved_to z
 high (pos n) g h = let l : 6 < n = ltb-true 6 n h in simp (le-leb 1 n (omega arith), lt-leb n 6 l)
 high (negsuc n) g h = refl
 
-pub mid : (z : ℤ) → lt_z z (pos 1) ≡ false → lt_z (pos 6) z ≡ false → To (nat_abs z) ≡ moved_to z
+pub mid : (z : ℤ) → lt_z z (pos 1) ≡ false → lt_z (pos 6) z ≡ false → Some (nat_abs z) ≡ moved_to z
 mid (pos n) g h = simp (le-leb 1 n (omega (arith, ltb-false n 1 g)), le-leb n 6 (omega (arith, ltb-false 6 n h)))
 mid (negsuc n) g h = absurd (clash g)
 
 -- the same of the machine's sum, which the tests and the returns of `shifted` speak of
-pub high_sum : (l : ℕ) (s : ℤ) → l ≤ 7 → mag s ≤ 7 → lt_z (to_z w32 (of_z w32 (to_z w32 l +ℤ to_z w32 (of_z w32 s)))) (pos 1) ≡ false → lt_z (pos 6) (to_z w32 (of_z w32 (to_z w32 l +ℤ to_z w32 (of_z w32 s)))) ≡ true → Past ≡ moved_to (pos l +ℤ s)
+pub high_sum : (l : ℕ) (s : ℤ) → l ≤ 7 → mag s ≤ 7 → lt_z (to_z w32 (of_z w32 (to_z w32 l +ℤ to_z w32 (of_z w32 s)))) (pos 1) ≡ false → lt_z (pos 6) (to_z w32 (of_z w32 (to_z w32 l +ℤ to_z w32 (of_z w32 s)))) ≡ true → None ≡ moved_to (pos l +ℤ s)
 high_sum l s h k g t = high (pos l +ℤ s) (rw (moved l s h k) at g) (rw (moved l s h k) at t)
 
-pub mid_sum : (l : ℕ) (s : ℤ) → l ≤ 7 → mag s ≤ 7 → lt_z (to_z w32 (of_z w32 (to_z w32 l +ℤ to_z w32 (of_z w32 s)))) (pos 1) ≡ false → lt_z (pos 6) (to_z w32 (of_z w32 (to_z w32 l +ℤ to_z w32 (of_z w32 s)))) ≡ false → To (nat_abs (to_z w32 (of_z w32 (to_z w32 l +ℤ to_z w32 (of_z w32 s))))) ≡ moved_to (pos l +ℤ s)
+pub mid_sum : (l : ℕ) (s : ℤ) → l ≤ 7 → mag s ≤ 7 → lt_z (to_z w32 (of_z w32 (to_z w32 l +ℤ to_z w32 (of_z w32 s)))) (pos 1) ≡ false → lt_z (pos 6) (to_z w32 (of_z w32 (to_z w32 l +ℤ to_z w32 (of_z w32 s)))) ≡ false → Some (nat_abs (to_z w32 (of_z w32 (to_z w32 l +ℤ to_z w32 (of_z w32 s))))) ≡ moved_to (pos l +ℤ s)
 mid_sum l s h k g t = rw (moved l s h k) (mid (pos l +ℤ s) (rw (moved l s h k) at g) (rw (moved l s h k) at t))
 
 pub not_negative : (z : ℤ) → lt_z z (pos 1) ≡ false → T (non_neg z)
@@ -106,11 +104,11 @@ pub moved_small : (l : ℕ) (s : ℤ) → l ≤ 7 → mag s ≤ 7 → nat_abs (p
 moved_small l s h k = let a : nat_abs (pos l +ℤ s) ≤ 15 = nat_abs-le (pos l +ℤ s) (omega (arith, small l s h k)) in omega arith
 
 -- a heading moves to a level of 1 to 6
-pub moved_level : (z : ℤ) (n : ℕ) → moved_to z ≡ To n → (1 ≤ n) × (n ≤ 6)
+pub moved_level : (z : ℤ) (n : ℕ) → moved_to z ≡ Some n → (1 ≤ n) × (n ≤ 6)
 moved_level (negsuc m) n e = let y : ◌≡◌ {A = ℕ} 0 1 = cc in absurd (omega arith)
 moved_level (pos m) n e = go (leb 1 m) (leb m 6) refl refl e
   where
-    go : (a b : Bool) → leb 1 m ≡ a → leb m 6 ≡ b → cond (a && b) (To m) Past ≡ To n → (1 ≤ n) × (n ≤ 6)
+    go : (a b : Bool) → leb 1 m ≡ a → leb m 6 ≡ b → cond (a && b) (Some m) None ≡ Some n → (1 ≤ n) × (n ≤ 6)
     go true true p q h = let y : m ≡ n = cc in (omega (arith, leb-true 1 m p), omega (arith, leb-true m 6 q))
     go true false p q h = let y : ◌≡◌ {A = ℕ} 0 1 = cc in absurd (omega arith)
     go false b p q h = let y : ◌≡◌ {A = ℕ} 0 1 = cc in absurd (omega arith)
@@ -144,13 +142,13 @@ HasLevel Quoted = Unit {0}
 HasLevel (Heading n a e) = (1 ≤ n) × (n ≤ 6)
 HasLevel Other = Unit {0}
 
-level-shallower : (b : TopLevel) (k : LineKind) → HasLevel k → IsLevel b → IsLevel (shallower b k)
+level-shallower : (b : Option ℕ) (k : LineKind) → HasLevel k → IsLevel b → IsLevel (shallower b k)
 level-shallower b Quoted h q = q
 level-shallower b Other h q = q
-level-shallower NoHeading (Heading n a e) h q = h
-level-shallower (Level m) (Heading n a e) h q = (omega arith, omega arith)
+level-shallower None (Heading n a e) h q = h
+level-shallower (Some m) (Heading n a e) h q = (omega arith, omega arith)
 
-pub level-step : (b : TopLevel) (f : Fence) (c : Bool) (l : List ℕ) → IsLevel b → IsLevel (shallower b (step_kind f c l))
+pub level-step : (b : Option ℕ) (f : Fence) (c : Bool) (l : List ℕ) → IsLevel b → IsLevel (shallower b (step_kind f c l))
 level-step b f c l q = level-shallower b (step_kind f c l) (go (step_kind f c l) (kind-within f c l)) q
   where
     go : (k : LineKind) → ((n a e : ℕ) → k ≡ Heading n a e → ((1 ≤ n) × (n ≤ 6)) × ((a ≤ e) × (e ≤ length l))) → HasLevel k
@@ -159,20 +157,20 @@ level-step b f c l q = level-shallower b (step_kind f c l) (go (step_kind f c l)
     go Other w = tt
 
 -- so do lines
-pub level-lines : (b : TopLevel) (st : WalkState) (ls : List (List ℕ)) → IsLevel b → IsLevel (shallowest_of b (kinds_from st ls))
+pub level-lines : (b : Option ℕ) (st : WalkState) (ls : List (List ℕ)) → IsLevel b → IsLevel (shallowest_of b (kinds_from st ls))
 unfolding shallowest_of kinds_from
 level-lines b st [] q = q
 level-lines b st (l ∷ ls) q =
     level-lines (shallower b (step_kind st.fence st.comment l)) (step_after st.fence st.comment l) ls (level-step b st.fence st.comment l q)
 
 -- a turn of the walk over pieces
-pub turn : (b : TopLevel) (st : WalkState) (l : List ℕ) (ls : List (List ℕ)) {b' : TopLevel} {st' : WalkState} {k : LineKind} {ps : List (List ℕ)} → ps ≡ l ∷ ls
+pub turn : (b : Option ℕ) (st : WalkState) (l : List ℕ) (ls : List (List ℕ)) {b' : Option ℕ} {st' : WalkState} {k : LineKind} {ps : List (List ℕ)} → ps ≡ l ∷ ls
     → k ≡ step_kind st.fence st.comment l → st' ≡ step_after st.fence st.comment l → b' ≡ shallower b k
     → shallowest_of b' (kinds_from st' ls) ≡ shallowest_of b (kinds_from st ps)
 unfolding shallowest_of kinds_from
 turn b st l ls p e f g = rw (p, g, f, e)
 
 -- no piece is left
-pub none_left : (b : TopLevel) (st : WalkState) → shallowest_of b (kinds_from st []) ≡ b
+pub none_left : (b : Option ℕ) (st : WalkState) → shallowest_of b (kinds_from st []) ≡ b
 unfolding shallowest_of kinds_from
 none_left b st = refl

@@ -1,4 +1,5 @@
 -- Laws of `deepest_of`: whether a heading goes past the levels is asked of the deepest one, where the shallowest goes to a level of 1 or more. Assumes nothing.
+use Rattle.std.specs.Prelude.{Option, Some, None}
 use Prim.Native.Nat.{ℕ, suc, ◌+◌, ◌-◌, ◌≤◌, min, max}
 use native.Mathlib.Omega.{arith}
 use mathlib.Core.Path.{◌≡◌, refl, sym, ap, ◌∙◌}
@@ -8,15 +9,13 @@ use lib.Dec.{ltb}
 use lib.IntN.{ℤ, pos, negsuc, ◌+ℤ◌, ◌-ℤ◌, +ℤ_comm, -ℤ-+ℤ_cancel}
 use borrow.Author.Tests.{le-leb, lt-leb, lt-ltb, le-ltb, ltb-true, ltb-false}
 use Rattle.heading.specs.Level.{shallowest_of, shift_of, moved_to, deepest_of, is_past, any_past}
-use Rattle.heading.specs.declared.level.TopLevel.{TopLevel}
-use Rattle.heading.specs.declared.level.TopLevel.TheVariants.{Level, NoHeading}
 use Rattle.heading.specs.declared.walk.LineKind.{LineKind}
 use Rattle.heading.specs.declared.walk.LineKind.TheVariants.{Quoted, Heading, Other}
 
 -- no heading, or none above level n
-abbrev Least : ℕ → TopLevel → Type 0
-Least n NoHeading = Unit {0}
-Least n (Level m) = n ≤ m
+abbrev Least : ℕ → Option ℕ → Type 0
+Least n None = Unit {0}
+Least n (Some m) = n ≤ m
 
 abbrev AtLeast : ℕ → List LineKind → Type 0
 AtLeast n [] = Unit {0}
@@ -24,15 +23,15 @@ AtLeast n (Quoted ∷ ks) = AtLeast n ks
 AtLeast n (Heading m a e ∷ ks) = (n ≤ m) × AtLeast n ks
 AtLeast n (Other ∷ ks) = AtLeast n ks
 
-shallowest_least : (n : ℕ) (b : TopLevel) (ks : List LineKind) → shallowest_of b ks ≡ Level n → Least n b × AtLeast n ks
+shallowest_least : (n : ℕ) (b : Option ℕ) (ks : List LineKind) → shallowest_of b ks ≡ Some n → Least n b × AtLeast n ks
 unfolding shallowest_of
-shallowest_least n NoHeading [] e = (tt, tt)
-shallowest_least n (Level m) [] e = let q : m ≡ n = cc in (omega arith, tt)
+shallowest_least n None [] e = (tt, tt)
+shallowest_least n (Some m) [] e = let q : m ≡ n = cc in (omega arith, tt)
 shallowest_least n b (Quoted ∷ ks) e = shallowest_least n b ks e
 shallowest_least n b (Other ∷ ks) e = shallowest_least n b ks e
-shallowest_least n NoHeading (Heading m i j ∷ ks) e = let h = shallowest_least n (Level m) ks e in (tt, (h.0, h.1))
-shallowest_least n (Level k) (Heading m i j ∷ ks) e =
-    let h = shallowest_least n (Level (min m k)) ks e in
+shallowest_least n None (Heading m i j ∷ ks) e = let h = shallowest_least n (Some m) ks e in (tt, (h.0, h.1))
+shallowest_least n (Some k) (Heading m i j ∷ ks) e =
+    let h = shallowest_least n (Some (min m k)) ks e in
     let q : n ≤ min m k = h.0 in
     (omega arith, (omega arith, h.1))
 
@@ -87,25 +86,25 @@ module _ (n m : ℕ) (z : ℤ) (e : pos n +ℤ z ≡ pos (suc m)) where
       ∙ rw (past-max b k h l.0) (or_assoc (is_past (moved_to (pos b +ℤ z))) (is_past (moved_to (pos k +ℤ z))) (any_past z ks))
 
   -- the shallowest goes to level 1 or more: a heading goes past just where the deepest does
-  pub deepest-past : (ks : List LineKind) → shallowest_of NoHeading ks ≡ Level n → any_past z ks ≡ is_past (moved_to (pos (deepest_of 0 ks) +ℤ z))
+  pub deepest-past : (ks : List LineKind) → shallowest_of None ks ≡ Some n → any_past z ks ≡ is_past (moved_to (pos (deepest_of 0 ks) +ℤ z))
   unfolding deepest_of any_past shallowest_of
   deepest-past [] q = let y : ◌≡◌ {A = ℕ} 0 1 = cc in absurd (omega arith)
   deepest-past (Quoted ∷ ks) q = deepest-past ks q
   deepest-past (Other ∷ ks) q = deepest-past ks q
   deepest-past (Heading k i j ∷ ks) q =
-      let h = shallowest_least n (Level k) ks q in
+      let h = shallowest_least n (Some k) ks q in
       let y : max 0 k ≡ k = omega arith in
       rw y (sym (deepest-from k ks h.0 h.1))
 
 -- with no heading nothing goes past
-some-heading : (m : ℕ) (ks : List LineKind) → shallowest_of (Level m) ks ≡ NoHeading → ⊥
+some-heading : (m : ℕ) (ks : List LineKind) → shallowest_of (Some m) ks ≡ None → ⊥
 unfolding shallowest_of
 some-heading m [] q = let y : ◌≡◌ {A = ℕ} 0 1 = cc in omega arith
 some-heading m (Quoted ∷ ks) q = some-heading m ks q
 some-heading m (Other ∷ ks) q = some-heading m ks q
 some-heading m (Heading k i j ∷ ks) q = some-heading (min k m) ks q
 
-pub none-past : (z : ℤ) (ks : List LineKind) → shallowest_of NoHeading ks ≡ NoHeading → any_past z ks ≡ false
+pub none-past : (z : ℤ) (ks : List LineKind) → shallowest_of None ks ≡ None → any_past z ks ≡ false
 unfolding shallowest_of any_past
 none-past z [] q = refl
 none-past z (Quoted ∷ ks) q = none-past z ks q
@@ -113,5 +112,5 @@ none-past z (Other ∷ ks) q = none-past z ks q
 none-past z (Heading k i j ∷ ks) q = absurd (some-heading k ks q)
 
 -- "target less shallowest level" takes the shallowest to the target
-pub shift_level : (k t : ℕ) → pos t +ℤ shift_of k (Level t) ≡ pos k
+pub shift_level : (k t : ℕ) → pos t +ℤ shift_of k (Some t) ≡ pos k
 shift_level k t = +ℤ_comm (pos t) (pos k -ℤ pos t) ∙ -ℤ-+ℤ_cancel (pos k) (pos t)

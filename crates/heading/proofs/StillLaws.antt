@@ -1,5 +1,6 @@
 -- Lines that leave the heading walk as it is: blank lines, and lines that do not begin with a byte of `is_first`; and the walk over lines and lines after
 -- them. Assumes nothing.
+use Rattle.std.specs.Prelude.{Option}
 use Prim.Native.Nat.{ℕ, zero, suc, ◌≤◌}
 use native.Mathlib.Omega.{arith}
 use mathlib.Core.Path.{◌≡◌, refl, ap, ◌∙◌}
@@ -17,7 +18,6 @@ use Rattle.text.proofs.FirstLaws.{blank_trimmed, blank_find, blank_begins, begin
 use Rattle.fence.specs.Fences.{opener, opens}
 use Rattle.heading.specs.Walk.{hashes, heading_of, closes, opens_comment, written_kind, comment_after, outside_kind, outside_after, step_kind, step_after, kinds_from, states_after, still_kind}
 use Rattle.heading.specs.Level.{shallower, shallowest_of, deeper}
-use Rattle.heading.specs.declared.level.TopLevel.{TopLevel}
 use Rattle.fence.specs.declared.Fence.{Fence}
 use Rattle.fence.specs.declared.Fence.TheVariants.{Outside, Ticks, Tildes}
 use Rattle.heading.specs.declared.walk.LineKind.{LineKind}
@@ -162,7 +162,7 @@ states_append st [] us = refl
 states_append st (l ∷ ls) us = states_append (step_after st.fence st.comment l) ls us
 
 -- the shallowest level of both
-pub shallowest_append : (b : TopLevel) (ks js : List LineKind) → shallowest_of b (ks ++ js) ≡ shallowest_of (shallowest_of b ks) js
+pub shallowest_append : (b : Option ℕ) (ks js : List LineKind) → shallowest_of b (ks ++ js) ≡ shallowest_of (shallowest_of b ks) js
 unfolding shallowest_of
 shallowest_append b [] js = refl
 shallowest_append b (k ∷ ks) js = shallowest_append (shallower b k) ks js
@@ -189,7 +189,7 @@ blanks-state zero st = refl
 blanks-state (suc n) st = ap (λ (s : WalkState). states_after s (replicate n [])) (blank_after st.fence st.comment [] empty_blank) ∙ blanks-state n st
 
 -- the shallowest level does not see such a line
-pub still-shallower : (f : Fence) (b : TopLevel) → shallower b (still_kind f) ≡ b
+pub still-shallower : (f : Fence) (b : Option ℕ) → shallower b (still_kind f) ≡ b
 still-shallower Outside b = refl
 still-shallower Ticks b = refl
 still-shallower Tildes b = refl

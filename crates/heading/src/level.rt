@@ -1,5 +1,5 @@
 // Levels: the shallowest, the shift, and the line that a heading becomes.
-ghost use Rattle.std.specs.Prelude.{◌≡◌, ◌+◌, ◌≤◌, pos, ◌+ℤ◌, length};
+ghost use Rattle.std.specs.Prelude.{◌≡◌, ◌+◌, ◌≤◌, pos, ◌+ℤ◌, length, None};
 ghost use Rattle.std.proofs.lemmas.List.Edits.{sets};
 ghost use Rattle.std.specs.Int.Signed.{mag};
 ghost use Rattle.text.specs.Lines.{pieces};
@@ -10,35 +10,22 @@ use crate::walk;
 use crate::walk::LineKind;
 use text::lines;
 
-#[derive(Clone, Copy)]
-pub enum TopLevel {
-    Level(usize),
-    NoHeading,
-}
-
-// The level that a heading moves to, or none of 1 to 6.
-#[derive(Clone, Copy)]
-pub enum Moved {
-    To(usize),
-    Past,
-}
-
-fn least(level: usize, found: TopLevel) -> TopLevel
+fn least(level: usize, found: Option<usize>) -> Option<usize>
     ensures { result ≡ least_of level found }
 {
     match found {
-        TopLevel::Level(m) => {
+        Some(m) => {
             if level < m {
-                return TopLevel::Level(level);
+                return Some(level);
             }
             found
         }
-        TopLevel::NoHeading => TopLevel::Level(level),
+        None => Some(level),
     }
 }
 
 // The shallower of what was found before a line and that line. Along the walk it stays a level of 1 to 6 (the law `level-step`).
-pub fn shallower(found: TopLevel, kind: LineKind) -> TopLevel
+pub fn shallower(found: Option<usize>, kind: LineKind) -> Option<usize>
     ensures { result ≡ shallower_of found kind }
 {
     match kind {
@@ -53,11 +40,11 @@ pub fn shallower(found: TopLevel, kind: LineKind) -> TopLevel
 }
 
 // The shallowest level of a text's headings.
-pub fn shallowest(s: &[u8]) -> TopLevel
-    ensures value { result ≡ shallowest_of TopLevel.NoHeading (kinds_from walk_begin (pieces s.now)) }
+pub fn shallowest(s: &[u8]) -> Option<usize>
+    ensures value { result ≡ shallowest_of None (kinds_from walk_begin (pieces s.now)) }
     ensures level { IsLevel result }
 {
-    let mut found = TopLevel::NoHeading;
+    let mut found = None;
     let mut state = walk::begin();
     let mut a = 0;
     loop {
@@ -75,30 +62,30 @@ pub fn shallowest(s: &[u8]) -> TopLevel
 }
 
 // The shift that takes the shallowest heading to the target.
-pub fn shift_to(target: usize, found: TopLevel) -> i32
+pub fn shift_to(target: usize, found: Option<usize>) -> i32
     requires { (target ≤ 7) × IsLevel found }
     ensures { (result ≡ shift_of target found) × (mag result ≤ 7) }
 {
     match found {
-        TopLevel::Level(n) => target as i32 - n as i32,
-        TopLevel::NoHeading => 0,
+        Some(n) => target as i32 - n as i32,
+        None => 0,
     }
 }
 
 // The level with the shift added, where that is 1 to 6.
 #[tactic(auto, using(crate::proofs::LevelLaws::high_sum, crate::proofs::LevelLaws::mid_sum))]
-pub fn shifted(level: usize, shift: i32) -> Moved
+pub fn shifted(level: usize, shift: i32) -> Option<usize>
     requires { (level ≤ 7) × (mag shift ≤ 7) }
     ensures { result ≡ moved_to (pos level +ℤ shift) }
 {
     let sum = level as i32 + shift;
     if sum < 1 {
-        return Moved::Past;
+        return None;
     }
     if 6 < sum {
-        return Moved::Past;
+        return None;
     }
-    Moved::To(sum as usize)
+    Some(sum as usize)
 }
 
 // Writes a heading line at a place of a buffer, and answers the place after it.

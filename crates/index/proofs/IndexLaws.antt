@@ -1,5 +1,6 @@
 -- Laws of `specs/Index.antt`: names and fields by their length and first byte, a line by its tabs, and the first line that is ill formed, line by line.
 -- Assumes nothing.
+use Rattle.std.specs.Prelude.{None}
 use Prim.Native.Nat.{ℕ, ◌+◌, ◌-◌, ◌≤◌, ◌<◌}
 use native.Mathlib.Nat.{not-suc-le-zero, sub-zero}
 use native.Mathlib.Omega.{arith}
@@ -15,11 +16,9 @@ use Rattle.buffer.specs.Decimal.{number_of}
 use Rattle.text.specs.Lines.{LF, pieces}
 use Rattle.text.specs.Pattern.{starts_with}
 use Rattle.text.specs.Split.{split}
-use Rattle.buffer.specs.declared.decimal.Number.TheVariants.{NoNumber}
 use Rattle.text.proofs.BytesLaws.{part_length}
 use Rattle.text.proofs.SplitLaws.{split-step-at, split-last-at, split-some}
 use Rattle.index.specs.Index.{TAB, is_unprinted, is_name, is_needless, field_of, numbered, fields, line_of, is_fields, ill_formed_from}
-use Rattle.index.specs.declared.line.IndexLine.TheVariants.{IllFormed}
 
 -- a name by its length
 module _ (s : List ℕ) where
@@ -43,15 +42,15 @@ needless_by (x ∷ s) b h e = rw (le-leb 2 (length (x ∷ s)) h, e) (and-true b)
 
 -- a field by its length and its first byte
 module _ (s : List ℕ) where
-  pub field_short : length s < 1 → NoNumber ≡ field_of s
+  pub field_short : length s < 1 → None ≡ field_of s
   unfolding field_of
   field_short h = rw (lt-leb 1 (length s) h)
 
-  pub field_long : 9 < length s → NoNumber ≡ field_of s
+  pub field_long : 9 < length s → None ≡ field_of s
   unfolding field_of
   field_long h = rw (le-leb 1 (length s) (omega arith), lt-leb (length s) 9 h)
 
-  pub field_zero : 1 < length s → length s ≤ 9 → get_or s 0 0 ≡ 0x30 → NoNumber ≡ field_of s
+  pub field_zero : 1 < length s → length s ≤ 9 → get_or s 0 0 ≡ 0x30 → None ≡ field_of s
   unfolding field_of
   field_zero h k e = rw (le-leb 1 (length s) (omega arith), le-leb (length s) 9 k, needless_by s true h (eq-eqb (get_or s 0 0) 0x30 e))
 
@@ -66,7 +65,7 @@ module _ (s : List ℕ) where
   field_more h k n = field-good (omega arith) k (needless_by s false h (ne_eqb (get_or s 0 0) 0x30 n))
 
 -- a line by the places of its tabs
-four : (n a z : List ℕ) (ls : List (List ℕ)) → 0 < length ls → IllFormed ≡ fields (n ∷ a ∷ z ∷ ls)
+four : (n a z : List ℕ) (ls : List (List ℕ)) → 0 < length ls → None ≡ fields (n ∷ a ∷ z ∷ ls)
 four n a z [] h = absurd (not-suc-le-zero h)
 four n a z (y ∷ ls) h = refl
 
@@ -74,24 +73,24 @@ abbrev Tab : List ℕ → ℕ → ℕ → Type 0
 Tab l i e = e ≡ i + first (is TAB) (drop i l)
 
 module _ (l : List ℕ) (a : ℕ) (p : Tab l 0 a) where
-  pub line-one : a ≡ length l → IllFormed ≡ line_of l
+  pub line-one : a ≡ length l → None ≡ line_of l
   unfolding line_of
   line-one h = rw (split-last-at TAB l 0 a h p)
 
   module _ (b : ℕ) (h : a < length l) (q : Tab l (a + 1) b) where
-    pub line-two : b ≡ length l → IllFormed ≡ line_of l
+    pub line-two : b ≡ length l → None ≡ line_of l
     unfolding line_of
     line-two k = rw (split-step-at TAB l 0 a h p, split-last-at TAB l (a + 1) b k q)
 
     module _ (c : ℕ) (k : b < length l) (r : Tab l (b + 1) c) where
-      pub line_four : c < length l → IllFormed ≡ line_of l
+      pub line_four : c < length l → None ≡ line_of l
       unfolding line_of
       line_four m =
           rw (split-step-at TAB l 0 a h p, split-step-at TAB l (a + 1) b k q, split-step-at TAB l (b + 1) c m r)
           (four (part 0 a l) (part (a + 1) b l) (part (b + 1) c l) (split TAB (drop (c + 1) l)) (split-some TAB (drop (c + 1) l)))
 
       pub line-three : c ≡ length l
-          → line_of l ≡ cond (is_name (take a l)) (numbered a (field_of (part (a + 1) b l)) (field_of (part (b + 1) (length l) l))) IllFormed
+          → line_of l ≡ cond (is_name (take a l)) (numbered a (field_of (part (a + 1) b l)) (field_of (part (b + 1) (length l) l))) None
       unfolding line_of
       line-three m =
           let n : length (take a l) ≡ a = length-take-le a l (omega arith) in

@@ -1,4 +1,5 @@
 -- Laws of the names of records: "1 to 255 bytes". Assumes nothing.
+use Rattle.std.specs.Prelude.{Option, Some, None}
 use Prim.Native.Nat.{ℕ, zero, suc, ◌+◌, ◌-◌, ◌≤◌, ◌<◌}
 use native.Mathlib.Nat.{add-zero, not-suc-le-zero}
 use native.Mathlib.Omega.{arith}
@@ -8,32 +9,29 @@ use mathlib.Core.List.{List, [], ◌∷◌}
 use lib.ListN.{length, get_or, length-take}
 use lib.Dec.{leb}
 use borrow.Author.Tests.{leb-true}
+use Rattle.index.specs.declared.line.IndexLine.{IndexLine}
 use Rattle.text.specs.Bytes.{any}
 use Rattle.text.specs.Split.{split}
-use Rattle.buffer.specs.declared.decimal.Number.{Number}
-use Rattle.buffer.specs.declared.decimal.Number.TheVariants.{Is, NoNumber}
 use Rattle.text.proofs.BytesLaws.{part_full}
 use Rattle.text.proofs.PatternLaws.{and_left, and_right}
 use Rattle.index.specs.Index.{TAB, is_unprinted, is_name, field_of, numbered, fields, line_of, Record, entry, recorded, records_from, records}
 use Rattle.index.specs.Rows.{row_at, record_of, records_in, AreRows}
-use Rattle.index.specs.declared.line.IndexLine.{IndexLine}
-use Rattle.index.specs.declared.line.IndexLine.TheVariants.{Fields, IllFormed}
 
 name-at-most : (s : List ℕ) → is_name s ≡ true → length s ≤ 255
 unfolding is_name
 name-at-most s e =
     leb-true (length s) 255 (and_right (leb 1 (length s)) (leb (length s) 255) (and_left (leb 1 (length s) && leb (length s) 255) (not (any is_unprinted s)) e))
 
-fields-short : (ps : List (List ℕ)) (n a z : ℕ) → fields ps ≡ Fields n a z → n ≤ 255
+fields-short : (ps : List (List ℕ)) (n a z : ℕ) → fields ps ≡ Some (record { name = n; start = a; size = z }) → n ≤ 255
 fields-short [] n a z e = let q : ◌≡◌ {A = ℕ} 0 1 = cc in absurd (omega arith)
 fields-short (p ∷ []) n a z e = let q : ◌≡◌ {A = ℕ} 0 1 = cc in absurd (omega arith)
 fields-short (p ∷ f ∷ []) n a z e = let q : ◌≡◌ {A = ℕ} 0 1 = cc in absurd (omega arith)
 fields-short (p ∷ f ∷ g ∷ []) n a z e = go (is_name p) refl (field_of f) (field_of g) e
   where
-    go : (b : Bool) → is_name p ≡ b → (x y : Number) → cond b (numbered (length p) x y) IllFormed ≡ Fields n a z → n ≤ 255
-    go true t (Is x) (Is y) h = let q : n ≡ length p = cc in omega (arith, name-at-most p t)
-    go true t (Is x) NoNumber h = let q : ◌≡◌ {A = ℕ} 0 1 = cc in absurd (omega arith)
-    go true t NoNumber y h = let q : ◌≡◌ {A = ℕ} 0 1 = cc in absurd (omega arith)
+    go : (b : Bool) → is_name p ≡ b → (x y : Option ℕ) → cond b (numbered (length p) x y) None ≡ Some (record { name = n; start = a; size = z }) → n ≤ 255
+    go true t (Some x) (Some y) h = let q : n ≡ length p = cc in omega (arith, name-at-most p t)
+    go true t (Some x) None h = let q : ◌≡◌ {A = ℕ} 0 1 = cc in absurd (omega arith)
+    go true t None y h = let q : ◌≡◌ {A = ℕ} 0 1 = cc in absurd (omega arith)
     go false t x y h = let q : ◌≡◌ {A = ℕ} 0 1 = cc in absurd (omega arith)
 fields-short (p ∷ f ∷ g ∷ q ∷ ps) n a z e = let q : ◌≡◌ {A = ℕ} 0 1 = cc in absurd (omega arith)
 
@@ -43,12 +41,12 @@ unfolding records_from line_of
 records-short [] k d h = absurd (not-suc-le-zero h)
 records-short (l ∷ ls) k d h = go (fields (split TAB l)) refl k h (λ i j. records-short ls i d j)
   where
-    go : (i : IndexLine) → fields (split TAB l) ≡ i → (k : ℕ) → k < length (recorded l i (records_from ls))
+    go : (i : Option IndexLine) → fields (split TAB l) ≡ i → (k : ℕ) → k < length (recorded l i (records_from ls))
         → ((j : ℕ) → j < length (records_from ls) → length (get_or (records_from ls) j d).name ≤ 255)
         → length (get_or (recorded l i (records_from ls)) k d).name ≤ 255
-    go (Fields n a z) e zero t ih = omega (arith, length-take n l, fields-short (split TAB l) n a z e)
-    go (Fields n a z) e (suc j) t ih = ih j (omega arith)
-    go IllFormed e j t ih = ih j t
+    go (Some p) e zero t ih = omega (arith, length-take p.name l, fields-short (split TAB l) p.name p.start p.size e)
+    go (Some p) e (suc j) t ih = ih j (omega arith)
+    go None e j t ih = ih j t
 
 -- the record of row k
 record_row : (index rows : List ℕ) (j n k : ℕ) (d : Record) → k < n → get_or (records_in index rows j n) k d ≡ record_of index (row_at rows (j + k))

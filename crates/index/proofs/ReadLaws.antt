@@ -1,4 +1,5 @@
 -- Laws of how an index is read into rows: line by line, judged and kept at once. Assumes nothing.
+use Rattle.std.specs.Prelude.{Option, Some, None, Ok, Err}
 use Prim.Native.Nat.{ℕ, suc, ◌+◌, ◌-◌, ◌≤◌, ◌<◌}
 use native.Mathlib.Nat.{add-zero, not-suc-le-zero}
 use native.Mathlib.Decide.{dec_le}
@@ -11,35 +12,31 @@ use lib.Seq.{take-take}
 use lib.Dec.{eqb}
 use borrow.Author.Count.{below_more}
 use borrow.Author.Tests.{eqb-true, ne_eqb}
+use Rattle.index.specs.declared.line.IndexLine.{IndexLine}
 use Rattle.text.specs.Bytes.{part, is, first, count}
 use Rattle.text.specs.Lines.{LF, pieces}
 use Rattle.text.specs.Split.{split}
-use Rattle.buffer.specs.declared.decimal.Number.{Number}
-use Rattle.buffer.specs.declared.decimal.Number.TheVariants.{Is, NoNumber}
 use Rattle.text.proofs.BytesLaws.{first_le, part_length}
 use Rattle.text.proofs.SplitLaws.{split_step, split-last, split-count}
 use Rattle.index.specs.Index.{TAB, is_name, field_of, numbered, fields, line_of, is_fields, ill_formed_from, ill_formed, entry, recorded, records_from, records}
 use Rattle.index.specs.Rows.{row, row_at, put_row, record_of, records_in, AreNamed, index_read, Told}
-use Rattle.index.specs.declared.line.IndexLine.{IndexLine}
-use Rattle.index.specs.declared.line.IndexLine.TheVariants.{Fields, IllFormed}
-use Rattle.index.specs.declared.rows.IndexRead.TheVariants.{Records, IllFormedAt}
 use Rattle.index.proofs.IndexLaws.{last_empty, last_open, next-piece}
 use Rattle.index.proofs.RowsLaws.{row-forward, row_within, records_more, records-same, rows_length, row_before, row_written}
 
 -- the name is the first field of its line
-fields-name : (p : List ℕ) (ps : List (List ℕ)) (n a z : ℕ) → fields (p ∷ ps) ≡ Fields n a z → n ≡ length p
+fields-name : (p : List ℕ) (ps : List (List ℕ)) (n a z : ℕ) → fields (p ∷ ps) ≡ Some (record { name = n; start = a; size = z }) → n ≡ length p
 fields-name p [] n a z e = cc
 fields-name p (f ∷ []) n a z e = cc
 fields-name p (f ∷ g ∷ []) n a z e = go (is_name p) (field_of f) (field_of g) e
   where
-    go : (b : Bool) (x y : Number) → cond b (numbered (length p) x y) IllFormed ≡ Fields n a z → n ≡ length p
-    go true (Is x) (Is y) h = cc
-    go true (Is x) NoNumber h = cc
-    go true NoNumber y h = cc
+    go : (b : Bool) (x y : Option ℕ) → cond b (numbered (length p) x y) None ≡ Some (record { name = n; start = a; size = z }) → n ≡ length p
+    go true (Some x) (Some y) h = cc
+    go true (Some x) None h = cc
+    go true None y h = cc
     go false x y h = cc
 fields-name p (f ∷ g ∷ q ∷ ps) n a z e = cc
 
-name-within : (l : List ℕ) (n a z : ℕ) → line_of l ≡ Fields n a z → n ≤ length l
+name-within : (l : List ℕ) (n a z : ℕ) → line_of l ≡ Some (record { name = n; start = a; size = z }) → n ≤ length l
 unfolding line_of
 name-within l n a z e = go (dec_le (length l) k)
   where
@@ -51,7 +48,7 @@ name-within l n a z e = go (dec_le (length l) k)
     go (no h) =
         omega (arith, length-take k l, fields-name (take k l) (split TAB (drop (suc k) l)) n a z (rw (split_step TAB l (omega arith)) at e))
 
-pub name-end : (index : List ℕ) (a e : ℕ) {n s z : ℕ} → line_of (part a e index) ≡ Fields n s z → a ≤ e → a + n ≤ e
+pub name-end : (index : List ℕ) (a e : ℕ) {n s z : ℕ} → line_of (part a e index) ≡ Some (record { name = n; start = s; size = z }) → a ≤ e → a + n ≤ e
 name-end index a e {n} {s} {z} f h = omega (arith, name-within (part a e index) n s z f, part_length index a e)
 
 name-part : (index : List ℕ) (a e n : ℕ) → a + n ≤ e → take n (part a e index) ≡ part a (a + n) index
@@ -89,38 +86,38 @@ read_start index rows e =
     }
 
 -- what is answered
-read_bad : (index : List ℕ) {n : ℕ} → 0 < n → n ≡ ill_formed index → IllFormedAt n ≡ index_read index
+read_bad : (index : List ℕ) {n : ℕ} → 0 < n → n ≡ ill_formed index → Err n ≡ index_read index
 unfolding index_read
 read_bad index {n} h e = rw (← e, ne_eqb n 0 (λ z. omega arith))
 
-read_good : (index : List ℕ) {n : ℕ} → 0 ≡ ill_formed index → n ≡ length (records index) → Records n ≡ index_read index
+read_good : (index : List ℕ) {n : ℕ} → 0 ≡ ill_formed index → n ≡ length (records index) → Ok n ≡ index_read index
 unfolding index_read
 read_good index z e = rw (← z, e)
 
 -- and what an answer tells
 module _ (index : List ℕ) {n : ℕ} where
-  pub read_line : IllFormedAt n ≡ index_read index → (n ≡ ill_formed index) × (eqb (ill_formed index) 0 ≡ false)
+  pub read_line : Err n ≡ index_read index → (n ≡ ill_formed index) × (eqb (ill_formed index) 0 ≡ false)
   unfolding index_read
   read_line e = go (eqb (ill_formed index) 0) e
     where
-      go : (b : Bool) → IllFormedAt n ≡ cond b (Records (length (records index))) (IllFormedAt (ill_formed index)) → (n ≡ ill_formed index) × (b ≡ false)
+      go : (b : Bool) → Err n ≡ cond b (Ok (length (records index))) (Err (ill_formed index)) → (n ≡ ill_formed index) × (b ≡ false)
       go false h = (cc, refl)
       go true h = let z : ◌≡◌ {A = ℕ} 0 1 = cc in absurd (omega arith)
 
-  pub read_records : Records n ≡ index_read index → (ill_formed index ≡ 0) × (n ≡ length (records index))
+  pub read_records : Ok n ≡ index_read index → (ill_formed index ≡ 0) × (n ≡ length (records index))
   unfolding index_read
   read_records e = go (eqb (ill_formed index) 0) refl e
     where
-      go : (b : Bool) → eqb (ill_formed index) 0 ≡ b → Records n ≡ cond b (Records (length (records index))) (IllFormedAt (ill_formed index))
+      go : (b : Bool) → eqb (ill_formed index) 0 ≡ b → Ok n ≡ cond b (Ok (length (records index))) (Err (ill_formed index))
           → (ill_formed index ≡ 0) × (n ≡ length (records index))
       go true t h = (eqb-true (ill_formed index) 0 t, cc)
       go false t h = let z : ◌≡◌ {A = ℕ} 0 1 = cc in absurd (omega arith)
 
 -- in an index that is not ill formed each piece but the last is a record, and the last is empty
-recorded-length : (n k : ℕ) (l : List ℕ) (ls : List (List ℕ)) (i : IndexLine) → 0 < n → cond (is_fields i) k n ≡ 0
+recorded-length : (n k : ℕ) (l : List ℕ) (ls : List (List ℕ)) (i : Option IndexLine) → 0 < n → cond (is_fields i) k n ≡ 0
     → (k ≡ 0) × (length (recorded l i (records_from ls)) ≡ suc (length (records_from ls)))
-recorded-length n k l ls (Fields a b z) h e = (e, refl)
-recorded-length n k l ls IllFormed h e = absurd (omega arith)
+recorded-length n k l ls (Some p) h e = (e, refl)
+recorded-length n k l ls None h e = absurd (omega arith)
 
 pieces-length : (n : ℕ) (ls : List (List ℕ)) → 0 < n → 0 < length ls → ill_formed_from n ls ≡ 0 → suc (length (records_from ls)) ≡ length ls
 unfolding ill_formed_from records_from line_of split
@@ -140,13 +137,13 @@ records-count index e =
 -- at a line that is ill formed, at the last one, and at a record
 module _ {index rows : List ℕ} {n a : ℕ} (u : Upto index rows n a) (e : ℕ) where
   module _ (p : pieces (drop a index) ≡ part a e index ∷ []) where
-    pub read_open : a < e → e ≤ length index → IllFormedAt (n + 1) ≡ index_read index
+    pub read_open : a < e → e ≤ length index → Err (n + 1) ≡ index_read index
     read_open h k = read_bad index (omega arith) (last_open index (n + 1) a e p h k ∙ u.judged)
 
     none_left : a ≡ e → records_from (pieces (drop a index)) ≡ []
     none_left h = rw p (no_record (part a e index) (omega (arith, part_length index a e)))
 
-    pub read_all : a ≡ e → (Records n ≡ index_read index) × Told index rows (Records n)
+    pub read_all : a ≡ e → (Ok n ≡ index_read index) × Told index rows (Ok n)
     read_all h =
         let z = last_empty index (n + 1) a e p h ∙ u.judged in
         let none = none_left h in
@@ -156,10 +153,10 @@ module _ {index rows : List ℕ} {n a : ℕ} (u : Upto index rows n a) (e : ℕ)
         )
 
   module _ (p : pieces (drop a index) ≡ part a e index ∷ pieces (drop (e + 1) index)) where
-    pub read_ill : line_of (part a e index) ≡ IllFormed → IllFormedAt (n + 1) ≡ index_read index
+    pub read_ill : line_of (part a e index) ≡ None → Err (n + 1) ≡ index_read index
     read_ill h = read_bad index (omega arith) (sym (rw h at (next-piece index (n + 1) a e p)) ∙ u.judged)
 
-    module _ {m s z : ℕ} (h : line_of (part a e index) ≡ Fields m s z) where
+    module _ {m s z : ℕ} (h : line_of (part a e index) ≡ Some (record { name = m; start = s; size = z })) where
       one_more : records_from (pieces (drop a index)) ≡ entry (take m (part a e index)) s z ∷ records_from (pieces (drop (e + 1) index))
       unfolding records_from
       one_more = rw (p, h)

@@ -1,4 +1,5 @@
 -- Laws of refusals 3 to 5 (`specs/Records.antt`) over the rows of the records: at a row, and behind the last. Assumes nothing.
+use Rattle.std.specs.Prelude.{Option, Some, None}
 use Prim.Native.Nat.{ℕ, zero, suc, ◌+◌, ◌-◌, ◌≤◌, ◌<◌}
 use native.Mathlib.Decide.{dec_le}
 use native.Mathlib.Omega.{arith}
@@ -9,8 +10,6 @@ use lib.Dec.{ltb}
 use borrow.Author.Tests.{lt-ltb, le-ltb, ltb-false, ne_eqb}
 use Rattle.answer.specs.Answer.{place}
 use Rattle.text.specs.Ascii.{wide_line}
-use Rattle.text.specs.declared.pattern.Found.{Found}
-use Rattle.text.specs.declared.pattern.Found.TheVariants.{At, Nothing}
 use Rattle.index.specs.Index.{file_text, find_record}
 use Rattle.index.specs.Rows.{row_at, record_of, records_in, AreWithin}
 use Rattle.index.specs.declared.rows.Row.{Row}
@@ -38,12 +37,12 @@ module _ (index rows : List ℕ) (k n : ℕ) (h : k < n) {r : Row} (e : r ≡ ro
     unfolding wide_from
     wide_on t = rw (records-at index rows k n h, ← (rw e at l), t)
 
-  module _ {f : Found} (q : f ≡ find_record (record_of index r).name (records_in index rows 0 k)) where
-    pub twice_here : {i : ℕ} → f ≡ At i → k + 1 ≡ twice_from (k + 1) (records_in index rows 0 k) (records_in index rows k (n - k))
+  module _ {f : Option ℕ} (q : f ≡ find_record (record_of index r).name (records_in index rows 0 k)) where
+    pub twice_here : {i : ℕ} → f ≡ Some i → k + 1 ≡ twice_from (k + 1) (records_in index rows 0 k) (records_in index rows k (n - k))
     unfolding twice_from
     twice_here t = rw (records-at index rows k n h, ← (rw e at q), t)
 
-    pub twice_on : f ≡ Nothing
+    pub twice_on : f ≡ None
         → twice_from (k + 1 + 1) (records_in index rows 0 (k + 1)) (records_in index rows (k + 1) (n - (k + 1)))
         ≡ twice_from (k + 1) (records_in index rows 0 k) (records_in index rows k (n - k))
     unfolding twice_from

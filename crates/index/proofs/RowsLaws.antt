@@ -1,4 +1,5 @@
 -- Laws of `specs/Rows.antt`: the records that rows tell of, from one row on and up to it, a row that is written, and a search by name. Assumes nothing.
+use Rattle.std.specs.Prelude.{Some, None}
 use Prim.Native.Nat.{ℕ, zero, suc, ◌+◌, ◌*◌, ◌-◌, ◌≤◌, ◌<◌}
 use native.Mathlib.Nat.{add-zero, sub-zero}
 use native.Mathlib.Numerals.{add-one, add-two, add-three}
@@ -11,7 +12,6 @@ use lib.Seq.{sets, get_or-set_same, get_or-set_other}
 use lib.Dec.{ltb}
 use borrow.Author.Tests.{lt-ltb}
 use Rattle.text.specs.Pattern.{equals, later}
-use Rattle.text.specs.declared.pattern.Found.TheVariants.{At, Nothing}
 use Rattle.text.proofs.PatternLaws.{later-zero, later-later}
 use Rattle.index.specs.Index.{Record, files_from, find_record, first_named}
 use Rattle.index.specs.Rows.{row_at, put_row, record_of, records_in, AreNamed}
@@ -65,7 +65,7 @@ module _ (index rows : List ℕ) where
   find-start name n = rw (records_all n) (sym (later-zero (find_record name (records_in index rows 0 n))))
 
   module _ (name : List ℕ) (k n : ℕ) (passed : find_record name (records_in index rows 0 n) ≡ later k (find_record name (records_in index rows k (n - k)))) where
-    pub found-row : {r : Row} → r ≡ row_at rows k → k < n → equals name (record_of index r).name ≡ true → At k ≡ find_record name (records_in index rows 0 n)
+    pub found-row : {r : Row} → r ≡ row_at rows k → k < n → equals name (record_of index r).name ≡ true → Some k ≡ find_record name (records_in index rows 0 n)
     unfolding first_named
     found-row r h e = sym (passed ∙ rw (records-at k n h, rw r at e, add-zero))
 
@@ -74,7 +74,7 @@ module _ (index rows : List ℕ) where
     unfolding first_named
     missed_row r h e = passed ∙ rw (records-at k n h, rw r at e) (later-later k 1 (find_record name (records_in index rows (k + 1) (n - (k + 1)))))
 
-    pub no_row : n ≤ k → Nothing ≡ find_record name (records_in index rows 0 n)
+    pub no_row : n ≤ k → None ≡ find_record name (records_in index rows 0 n)
     unfolding first_named
     no_row h = sym (passed ∙ rw (records-end k n h))
 

@@ -1,16 +1,11 @@
 -- Document 01, "Records": names, the index and the files that it tells of.
-use Rattle.std.specs.Prelude.{ℕ, ◌+◌, Bool, true, false, cond, not, ◌&&◌, List, [], ◌∷◌, length, take, eqb, leb}
+use Rattle.std.specs.Prelude.{ℕ, ◌+◌, Bool, true, false, cond, not, ◌&&◌, List, [], ◌∷◌, length, take, eqb, leb, Option, Some, None}
+use Rattle.index.specs.declared.line.IndexLine.{IndexLine}
 use Rattle.text.specs.Bytes.{part, any}
 use Rattle.buffer.specs.Decimal.{number_of}
 use Rattle.text.specs.Lines.{pieces}
 use Rattle.text.specs.Pattern.{bytes, starts_with, equals, later}
 use Rattle.text.specs.Split.{split}
-use Rattle.buffer.specs.declared.decimal.Number.{Number}
-use Rattle.buffer.specs.declared.decimal.Number.TheVariants.{Is, NoNumber}
-use Rattle.text.specs.declared.pattern.Found.{Found}
-use Rattle.text.specs.declared.pattern.Found.TheVariants.{At, Nothing}
-use Rattle.index.specs.declared.line.IndexLine.{IndexLine}
-use Rattle.index.specs.declared.line.IndexLine.TheVariants.{Fields, IllFormed}
 
 abbrev pub TAB : ℕ
 TAB = 0x09
@@ -29,28 +24,28 @@ is_name s = (leb 1 (length s) && leb (length s) 255) && not (any is_unprinted s)
 abbrev pub is_needless : List ℕ → Bool
 is_needless s = leb 2 (length s) && starts_with (bytes "0") s
 
-unfoldable pub field_of : List ℕ → Number
-field_of s = cond ((leb 1 (length s) && leb (length s) 9) && not (is_needless s)) (number_of s) NoNumber
+unfoldable pub field_of : List ℕ → Option ℕ
+field_of s = cond ((leb 1 (length s) && leb (length s) 9) && not (is_needless s)) (number_of s) None
 
 -- "name, start, length, parted by one tab": the fields of a line, the name by its length
-abbrev pub numbered : ℕ → Number → Number → IndexLine
-numbered n (Is a) (Is z) = Fields n a z
-numbered n (Is a) NoNumber = IllFormed
-numbered n NoNumber z = IllFormed
+abbrev pub numbered : ℕ → Option ℕ → Option ℕ → Option IndexLine
+numbered n (Some a) (Some z) = Some (record { name = n; start = a; size = z })
+numbered n (Some a) None = None
+numbered n None z = None
 
-abbrev pub fields : List (List ℕ) → IndexLine
-fields [] = IllFormed
-fields (n ∷ []) = IllFormed
-fields (n ∷ a ∷ []) = IllFormed
-fields (n ∷ a ∷ z ∷ []) = cond (is_name n) (numbered (length n) (field_of a) (field_of z)) IllFormed
-fields (n ∷ a ∷ z ∷ y ∷ ls) = IllFormed
+abbrev pub fields : List (List ℕ) → Option IndexLine
+fields [] = None
+fields (n ∷ []) = None
+fields (n ∷ a ∷ []) = None
+fields (n ∷ a ∷ z ∷ []) = cond (is_name n) (numbered (length n) (field_of a) (field_of z)) None
+fields (n ∷ a ∷ z ∷ y ∷ ls) = None
 
-unfoldable pub line_of : List ℕ → IndexLine
+unfoldable pub line_of : List ℕ → Option IndexLine
 line_of l = fields (split TAB l)
 
-abbrev pub is_fields : IndexLine → Bool
-is_fields (Fields n a z) = true
-is_fields IllFormed = false
+abbrev pub is_fields : Option IndexLine → Bool
+is_fields (Some p) = true
+is_fields None = false
 
 -- "Index: a record a line, LF after each (else the last line is ill formed)": the first line that is ill formed, or 0; the lines count from n
 unfoldable pub ill_formed_from : ℕ → List (List ℕ) → ℕ
@@ -71,9 +66,9 @@ abbrev pub entry : List ℕ → ℕ → ℕ → Record
 entry name a z = record { name = name; start = a; size = z }
 
 -- the records of lines
-abbrev pub recorded : List ℕ → IndexLine → List Record → List Record
-recorded l (Fields n a z) rs = entry (take n l) a z ∷ rs
-recorded l IllFormed rs = rs
+abbrev pub recorded : List ℕ → Option IndexLine → List Record → List Record
+recorded l (Some p) rs = entry (take p.name l) p.start p.size ∷ rs
+recorded l None rs = rs
 
 unfoldable pub records_from : List (List ℕ) → List Record
 records_from [] = []
@@ -104,12 +99,12 @@ abbrev pub files : List ℕ → List ℕ → List File
 files index contents = files_from 1 contents (records index)
 
 -- the first of a list that has a name, counted from 0: names compare as bytes
-unfoldable pub first_named : {A : Type 0} → (A → List ℕ) → List ℕ → List A → Found
-first_named f name [] = Nothing
-first_named f name (a ∷ l) = cond (equals name (f a)) (At 0) (later 1 (first_named f name l))
+unfoldable pub first_named : {A : Type 0} → (A → List ℕ) → List ℕ → List A → Option ℕ
+first_named f name [] = None
+first_named f name (a ∷ l) = cond (equals name (f a)) (Some 0) (later 1 (first_named f name l))
 
-abbrev pub find_record : List ℕ → List Record → Found
+abbrev pub find_record : List ℕ → List Record → Option ℕ
 find_record name rs = first_named (λ r. r.name) name rs
 
-abbrev pub find_file : List ℕ → List File → Found
+abbrev pub find_file : List ℕ → List File → Option ℕ
 find_file name S = first_named (λ f. f.name) name S

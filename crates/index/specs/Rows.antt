@@ -1,12 +1,10 @@
 -- The index once it is read: a row a record, of four numbers. Nothing here is document 01's: inner functions promise it, and the laws of `proofs/` tie it
 -- to the records.
-use Rattle.std.specs.Prelude.{ℕ, zero, suc, ◌+◌, ◌*◌, ◌≤◌, ◌<◌, cond, ◌≡◌, List, [], ◌∷◌, length, get_or, eqb, ltb}
+use Rattle.std.specs.Prelude.{ℕ, zero, suc, ◌+◌, ◌*◌, ◌≤◌, ◌<◌, cond, ◌≡◌, List, [], ◌∷◌, length, get_or, eqb, ltb, Result, Ok, Err}
 use Rattle.std.proofs.lemmas.List.Edits.{sets}
 use Rattle.text.specs.Bytes.{part}
 use Rattle.index.specs.Index.{Record, entry, ill_formed, records}
 use Rattle.index.specs.declared.rows.Row.{Row}
-use Rattle.index.specs.declared.rows.IndexRead.{IndexRead}
-use Rattle.index.specs.declared.rows.IndexRead.TheVariants.{Records, IllFormedAt}
 
 abbrev pub row : ℕ → ℕ → ℕ → ℕ → Row
 row a e s z = record { name = a; end = e; start = s; size = z }
@@ -42,10 +40,10 @@ pub record AreRows (index rows : List ℕ) : Type 0 where
   pub named : AreNamed index rows (length (records index))
 
 -- what reading an index gives: how many records it has, or its first line that is ill formed
-unfoldable pub index_read : List ℕ → IndexRead
-index_read index = cond (eqb (ill_formed index) 0) (Records (length (records index))) (IllFormedAt (ill_formed index))
+unfoldable pub index_read : List ℕ → Result ℕ ℕ
+index_read index = cond (eqb (ill_formed index) 0) (Ok (length (records index))) (Err (ill_formed index))
 
 -- and the rows, which have room for 64 records
-abbrev pub Told : List ℕ → List ℕ → IndexRead → Type 0
-Told index rows (Records n) = n ≤ 64 → AreRows index rows
-Told index rows (IllFormedAt n) = Unit {0}
+abbrev pub Told : List ℕ → List ℕ → Result ℕ ℕ → Type 0
+Told index rows (Ok n) = n ≤ 64 → AreRows index rows
+Told index rows (Err n) = Unit {0}

@@ -6,7 +6,6 @@ ghost use Rattle.index.specs.Rows.{records_in, AreNamed, AreWithin};
 use crate::rows;
 use answer::Place;
 use text::ascii;
-use text::pattern::Found;
 
 // The line of the first record whose part ends past the contents, or 0. No name is read, so this is so for every index.
 pub fn past_line(rows: &[usize; 256], count: usize, room: usize) -> usize
@@ -38,10 +37,10 @@ pub fn twice_line(index: &[u8], rows: &[usize; 256], count: usize) -> usize
         let a = row.name;
         let e = row.end;
         match rows::find(index, rows, k, &index[a..e]) {
-            Found::At(_) => {
+            Some(_) => {
                 return k + 1;
             }
-            Found::Nothing => {
+            None => {
                 k += 1;
             }
         }

@@ -5,7 +5,6 @@ ghost use Rattle.index.specs.Rows.{row_at, put_row, records_in, AreNamed, index_
 
 use crate::line;
 use crate::line::IndexLine;
-use text::pattern::Found;
 use text::{lines, pattern};
 
 // Where a record's name starts and ends in the index, and start and length of its file's part of the contents.
@@ -15,13 +14,6 @@ pub struct Row {
     pub end: usize,
     pub start: usize,
     pub size: usize,
-}
-
-// How many records an index has, or its first line that is ill formed.
-#[derive(Clone, Copy)]
-pub enum IndexRead {
-    Records(usize),
-    IllFormedAt(usize),
 }
 
 // The row of a record, counted from 0.
@@ -52,7 +44,7 @@ fn put_row(rows: &mut [usize; 256], k: usize, row: Row)
 }
 
 // Reads an index. Lines past the 64th are judged and not kept, since refusal 1 comes before refusal 2.
-pub fn read(index: &[u8], rows: &mut [usize; 256]) -> IndexRead
+pub fn read(index: &[u8], rows: &mut [usize; 256]) -> Result<usize, usize>
     ensures value { result ≡ index_read index.now }
     ensures told { Told index.now rows.new result }
 {
@@ -64,12 +56,12 @@ pub fn read(index: &[u8], rows: &mut [usize; 256]) -> IndexRead
         let e = p.end;
         if p.last {
             if a == e {
-                return IndexRead::Records(n);
+                return Ok(n);
             }
-            return IndexRead::IllFormedAt(n + 1);
+            return Err(n + 1);
         }
         match line::read_line(&index[a..e]) {
-            IndexLine::Fields { name, start, size } => {
+            Some(IndexLine { name, start, size }) => {
                 let row = Row {
                     name: a,
                     end: a + name,
@@ -80,15 +72,15 @@ pub fn read(index: &[u8], rows: &mut [usize; 256]) -> IndexRead
                 n += 1;
                 a = e + 1;
             }
-            IndexLine::IllFormed => {
-                return IndexRead::IllFormedAt(n + 1);
+            None => {
+                return Err(n + 1);
             }
         }
     }
 }
 
 // The first record of a name among so many, counted from 0.
-pub fn find(index: &[u8], rows: &[usize; 256], count: usize, name: &[u8]) -> Found
+pub fn find(index: &[u8], rows: &[usize; 256], count: usize, name: &[u8]) -> Option<usize>
     requires { (count ≤ 64) × AreNamed index.now rows.now count }
     ensures { result ≡ find_record name.now (records_in index.now rows.now 0 count) }
 {
@@ -98,9 +90,9 @@ pub fn find(index: &[u8], rows: &[usize; 256], count: usize, name: &[u8]) -> Fou
         let a = row.name;
         let e = row.end;
         if pattern::equals(&index[a..e], name) {
-            return Found::At(k);
+            return Some(k);
         }
         k += 1;
     }
-    Found::Nothing
+    None
 }

@@ -1,4 +1,5 @@
 -- Laws of what comes of a text before its lines are put, and of the running text behind which they are. Assumes nothing.
+use Rattle.std.specs.Prelude.{Option, Some, None, Ok, Err}
 use Prim.Native.Nat.{ℕ, ◌+◌, ◌-◌, ◌≤◌, ◌<◌}
 use native.Mathlib.Omega.{arith}
 use mathlib.Core.Path.{◌≡◌, sym, ap, ◌∙◌}
@@ -22,7 +23,6 @@ use Rattle.walk.specs.Parts.{Part, good, flawed}
 use Rattle.shift.specs.Shift.{told_from, drop_start, drop_end, shift_for, past_from}
 use Rattle.shift.specs.Ends.{lines_in, AreEnds}
 use Rattle.shift.specs.Levels.{ShiftTo}
-use Rattle.shift.specs.declared.level.Shift.TheVariants.{By, PastAt as Past}
 use Rattle.shift.proofs.EndsLaws.{lines-some}
 use Rattle.shift.proofs.ShiftLaws.{kinds_told, past-none, past-some}
 use Rattle.embedding.specs.Embed.{embed_told}
@@ -30,10 +30,7 @@ use Rattle.put.specs.Put.{source_text, part_of, Written, Wrote}
 use Rattle.insertion.specs.Insertion.{joined, stopped, read_inserted, inserted_of, Within}
 use Rattle.putting.specs.Lines.{linked_line, linked_lines}
 use Rattle.insertion.specs.Plans.{embed_text, PlanOf, within_limit}
-use Rattle.insertion.specs.declared.plan.Plan.TheVariants.{Nothing, PastAt, Lines}
 use Rattle.put.specs.declared.Source.{Source}
-use Rattle.put.specs.declared.Put.{Put}
-use Rattle.put.specs.declared.Put.TheVariants.{To as PutTo, Over}
 use Rattle.put.specs.declared.Room.{Room}
 use Rattle.put.proofs.PutLaws.{source-part}
 
@@ -53,7 +50,7 @@ module _ (host name : List ℕ) (target d : ℕ) (ls : List (List ℕ)) where
   embed-past h = let p = past-some (λ n. HeadingLevel (place d n)) z 1 (kinds_from walk_begin ls) h in (p.0, rw (kinds_told walk_begin ls, p.1))
 
 module _ {s : List ℕ} {a e : ℕ} (ends : AreEnds s a e) (target : ℕ) where
-  pub plan_nothing : a ≡ e → PlanOf s target Nothing
+  pub plan_nothing : a ≡ e → PlanOf s target (Ok None)
   unfolding embed_told told_from past_from
   plan_nothing q host name d =
       let n : e - a ≡ 0 = omega arith in
@@ -67,12 +64,12 @@ module _ {s : List ℕ} {a e : ℕ} (ends : AreEnds s a e) (target : ℕ) where
     text-is : (host name : List ℕ) (d : ℕ) → embed_text host name target d s ≡ embed_told host name target d (told_from walk_begin (pieces (part a e s)))
     text-is host name d = ap (λ (ls : List (List ℕ)). embed_told host name target d (told_from walk_begin ls)) lines_are
 
-    pub plan_past : (n : ℕ) → ShiftTo (part a e s) target (Past n) → PlanOf s target (PastAt n)
+    pub plan_past : (n : ℕ) → ShiftTo (part a e s) target (Err n) → PlanOf s target (Err n)
     plan_past n h host name d =
         let p = embed-past host name target d (pieces (part a e s)) h.0 in
         (p.0, text-is host name d ∙ p.1 ∙ ap (λ (k : ℕ). flawed (HeadingLevel (place d k)) p.0) (sym h.1))
 
-    pub plan_lines : (z : ℤ) → ShiftTo (part a e s) target (By z) → PlanOf s target (Lines a e z)
+    pub plan_lines : (z : ℤ) → ShiftTo (part a e s) target (Ok z) → PlanOf s target (Ok (Some (record { start = a; end = e; shift = z })))
     plan_lines z h = (
       (ends.order, (ends.within, h.1.0)),
       λ host name d.
@@ -106,10 +103,10 @@ module _ (p : Place) (w : List ℕ) where
         ap (take n) (h.wrote ∙ sets-eq t w room.at (omega (arith, h.place, h.below)) ∙ ap (λ (y : List ℕ). (take room.at w ++ y) ++ r) text-is) ∙ take_at a r n l in
         rw (e, le-leb (length a) room.limit (omega (arith, h.below)), q)
 
-    pub joined_put : room.at ≤ room.limit → (v : List ℕ) (r : Put) → Wrote room t w v r
+    pub joined_put : room.at ≤ room.limit → (v : List ℕ) (r : Option ℕ) → Wrote room t w v r
         → (read_inserted (within_limit r p) v ≡ inserted_of room.limit (take room.at w) p x) × Within (within_limit r p) room.limit
-    joined_put h v (PutTo n) k = (to v n k, k.below)
-    joined_put h v Over k = (over h k, tt)
+    joined_put h v (Some n) k = (to v n k, k.below)
+    joined_put h v None k = (over h k, tt)
 
 -- the lines that are put, by the place where they stand in the source
 pub lines-put : (host name dir c w : List ℕ) (y z : ℤ) (l source : Source) (a e : ℕ) → dir ≡ parent_dir name → y ≡ z → l ≡ part_of source a e → source.start + e ≤ source.end

@@ -1,6 +1,7 @@
 -- What comes of a text before any of its lines is put. Nothing here is document 01's: an inner function promises it.
-use Rattle.std.specs.Prelude.{ℕ, ◌≤◌, ◌≡◌, List, [], map, length}
+use Rattle.std.specs.Prelude.{ℕ, ◌≤◌, ◌≡◌, List, [], map, length, Option, Some, None, Result, Ok, Err}
 use Rattle.std.specs.Int.Signed.{mag}
+use Rattle.insertion.specs.declared.plan.Plan.{Plan}
 use Rattle.answer.specs.Answer.{place}
 use Rattle.answer.specs.declared.Place.{Place}
 use Rattle.answer.specs.declared.Refusal.{Refusal}
@@ -13,29 +14,23 @@ use Rattle.walk.specs.Parts.{Part, good, flawed}
 use Rattle.shift.specs.Shift.{told_from, told_lines}
 use Rattle.embedding.specs.Embed.{embed_told}
 use Rattle.putting.specs.Lines.{linked_line}
-use Rattle.insertion.specs.declared.Inserted.{Inserted}
-use Rattle.insertion.specs.declared.Inserted.TheVariants.{To, Refused}
-use Rattle.put.specs.declared.Put.{Put}
-use Rattle.put.specs.declared.Put.TheVariants.{To as PutTo, Over}
-use Rattle.insertion.specs.declared.plan.Plan.{Plan}
-use Rattle.insertion.specs.declared.plan.Plan.TheVariants.{Nothing, PastAt, Lines}
 
 -- a text embedded in a host, its blank ends dropped
 abbrev pub embed_text : List ℕ → List ℕ → ℕ → ℕ → List ℕ → Part (List (List ℕ))
 embed_text host name target d s = embed_told host name target d (told_lines (pieces s))
 
 -- no line; 16 at a line; or lines from a place up to another, under a shift
-abbrev pub PlanOf : List ℕ → ℕ → Plan → Type 0
-PlanOf s target Nothing = (host name : List ℕ) (d : ℕ) → embed_text host name target d s ≡ good []
-PlanOf s target (PastAt n) = (host name : List ℕ) (d : ℕ) → (xs : List Refusal) × (embed_text host name target d s ≡ flawed (HeadingLevel (place d n)) xs)
-PlanOf s target (Lines a e z) =
-    ((a ≤ e) × ((e ≤ length s) × (mag z ≤ 7)))
-    × ((host name : List ℕ) (d : ℕ) → embed_text host name target d s ≡ good (map (linked_line host (parent_dir name) z) (told_from walk_begin (pieces (part a e s)))))
+abbrev pub PlanOf : List ℕ → ℕ → Result (Option Plan) ℕ → Type 0
+PlanOf s target (Ok None) = (host name : List ℕ) (d : ℕ) → embed_text host name target d s ≡ good []
+PlanOf s target (Err n) = (host name : List ℕ) (d : ℕ) → (xs : List Refusal) × (embed_text host name target d s ≡ flawed (HeadingLevel (place d n)) xs)
+PlanOf s target (Ok (Some p)) =
+    ((p.start ≤ p.end) × ((p.end ≤ length s) × (mag p.shift ≤ 7)))
+    × ((host name : List ℕ) (d : ℕ) → embed_text host name target d s ≡ good (map (linked_line host (parent_dir name) p.shift) (told_from walk_begin (pieces (part p.start p.end s)))))
 
 -- 16 at a line of a file; what was put, or 17 at an opener
-abbrev pub past_level : ℕ → ℕ → Inserted
-past_level file line = Refused (HeadingLevel (place file line))
+abbrev pub past_level : ℕ → ℕ → Result ℕ Refusal
+past_level file line = Err (HeadingLevel (place file line))
 
-abbrev pub within_limit : Put → Place → Inserted
-within_limit (PutTo n) p = To n
-within_limit Over p = Refused (TextLimit p)
+abbrev pub within_limit : Option ℕ → Place → Result ℕ Refusal
+within_limit (Some n) p = Ok n
+within_limit None p = Err (TextLimit p)

@@ -11,7 +11,7 @@ ghost use Rattle.insertion.specs.Plans.{past_level, within_limit};
 
 use answer::{Place, Refusal};
 use plan::Plan;
-use put::{Put, Room, Source};
+use put::{Room, Source};
 
 pub mod plan;
 pub mod read;
@@ -26,27 +26,20 @@ pub struct Insertion {
     pub len: usize,
 }
 
-// How long the running text is now, or a refusal.
-#[derive(Clone, Copy)]
-pub enum Inserted {
-    To(usize),
-    Refused(Refusal),
-}
-
 // 16, at a line of a file.
-fn past_level(file: usize, line: usize) -> Inserted
+fn past_level(file: usize, line: usize) -> Result<usize, Refusal>
     ensures { result ≡ past_level file line }
 {
-    Inserted::Refused(Refusal::HeadingLevel(Place { file, line }))
+    Err(Refusal::HeadingLevel(Place { file, line }))
 }
 
 // What was put, or 17 at an opener.
-fn within_limit(put: Put, opener: Place) -> Inserted
+fn within_limit(put: Option<usize>, opener: Place) -> Result<usize, Refusal>
     ensures { result ≡ within_limit put opener }
 {
     match put {
-        Put::To(len) => Inserted::To(len),
-        Put::Over => Inserted::Refused(Refusal::TextLimit(opener)),
+        Some(len) => Ok(len),
+        None => Err(Refusal::TextLimit(opener)),
     }
 }
 
@@ -58,15 +51,15 @@ pub fn insert(
     name: &[u8],
     at: Insertion,
     work: &mut [u8],
-) -> Inserted
+) -> Result<usize, Refusal>
     requires { Inside source at.limit (length contents.now) (length work.old) × ((at.len ≤ at.limit) × ((at.limit ≤ length work.old) × ((1 ≤ at.target) × (at.target ≤ 7)))) }
     ensures work_after { read_inserted result work.new ≡ inserted_of at.limit (take at.len work.old) at.opener (embed_told host.now name.now at.target at.number (told_lines (pieces (source_text source contents.now work.old)))) }
     ensures within { Within result at.limit }
 {
     match read::plan_in(contents, work, source, at.target) {
-        Plan::Nothing => Inserted::To(at.len),
-        Plan::PastAt(line) => past_level(at.number, line),
-        Plan::Lines { start, end, shift } => {
+        Ok(None) => Ok(at.len),
+        Err(line) => past_level(at.number, line),
+        Ok(Some(Plan { start, end, shift })) => {
             let lines = put::part_of(source, start, end);
             let n = path::parent_dir(name);
             let room = Room {

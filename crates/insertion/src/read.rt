@@ -8,7 +8,12 @@ use crate::plan::Plan;
 use put::Source;
 
 // What comes of a source.
-pub fn plan_in(contents: &[u8], work: &[u8], source: Source, target: usize) -> Plan
+pub fn plan_in(
+    contents: &[u8],
+    work: &[u8],
+    source: Source,
+    target: usize,
+) -> Result<Option<Plan>, usize>
     requires { Inside source 0 (length contents.now) (length work.now) × ((1 ≤ target) × (target ≤ 7)) }
     ensures { PlanOf (source_text source contents.now work.now) target result }
 {

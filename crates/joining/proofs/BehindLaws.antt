@@ -1,4 +1,5 @@
 -- Laws of a member put behind the rule that joins it. Assumes nothing.
+use Rattle.std.specs.Prelude.{Option}
 use Prim.Native.Nat.{ℕ, zero, suc, ◌+◌, ◌-◌, ◌≤◌, ◌<◌}
 use native.Mathlib.Omega.{arith}
 use mathlib.Core.Path.{◌≡◌, refl, sym, ap, ◌∙◌, subst}
@@ -12,7 +13,6 @@ use Rattle.text.proofs.BytesLaws.{part_full}
 use Rattle.path.specs.Path.{parent_dir}
 use Rattle.link.specs.Target.{rewrite_target}
 use Rattle.put.specs.Put.{source_text, Able, Written, Wrote}
-use Rattle.put.specs.declared.Put.{Put}
 use Rattle.put.specs.declared.Room.{Room}
 use Rattle.put.specs.declared.Source.{Source}
 use Rattle.put.proofs.PutLaws.{Reached, room_at, reached_start, reached_next, reached_last, reached_length, reached_behind}
@@ -68,7 +68,7 @@ module _ {index contents set : List ℕ} {n : ℕ} (room : Room) (w : List ℕ) 
       ∙ ap (λ (ps : List Prepared). emitted_text (rewrite_target (title_named ps) url dir) z (source_text (text_source (member_at set i)) contents w)) (members_on able v same-behind)
       ∙ ap (λ (x : List ℕ). emitted_text (rewrite_target (titles_in index contents w set n) url x) z (source_text (text_source (member_at set i)) contents w)) (d ∙ ap (λ (x : Member). parent_dir (name_of index x)) e)
 
-  pub rule_lines : (url : List ℕ) (z : ℤ) (m : Member) → m ≡ member_at set i → (text : Source) → text ≡ text_source m → (dir : List ℕ) → dir ≡ parent_dir (name_of index m) → (u : List ℕ) (r : Put)
+  pub rule_lines : (url : List ℕ) (z : ℤ) (m : Member) → m ≡ member_at set i → (text : Source) → text ≡ text_source m → (dir : List ℕ) → dir ≡ parent_dir (name_of index m) → (u : List ℕ) (r : Option ℕ)
       → Wrote (record { at = at; limit = room.limit }) (emitted_text (rewrite_target (titles_in index contents v set n) url dir) z (source_text text contents v)) v u r
       → Wrote room (rule_before i ++ emitted_text (target_in index contents w url set n (member_at set i)) z (source_text (text_source (member_at set i)) contents w)) w u r
   rule_lines url z m e text t dir d u r q =

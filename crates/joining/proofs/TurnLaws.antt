@@ -1,4 +1,5 @@
 -- Laws of one member emitted behind those before it. Assumes nothing.
+use Rattle.std.specs.Prelude.{Option, Some, None, Ok, Err}
 use Prim.Native.Nat.{ℕ, ◌+◌, ◌≤◌, ◌<◌}
 use native.Mathlib.Omega.{arith}
 use mathlib.Core.Path.{◌≡◌, sym, ap, ◌∙◌}
@@ -18,11 +19,8 @@ use Rattle.path.specs.Path.{parent_dir}
 use Rattle.link.specs.Target.{rewrite_target}
 use Rattle.walk.specs.Parts.{Part, good, flawed}
 use Rattle.walk.specs.Steps.{Steps, go, refused, judge}
-use Rattle.shift.specs.declared.level.Shift.TheVariants.{By, PastAt}
 use Rattle.put.specs.Put.{Written, Wrote}
 use Rattle.put.specs.declared.Room.{Room}
-use Rattle.put.specs.declared.Put.{Put}
-use Rattle.put.specs.declared.Put.TheVariants.{To, Over}
 use Rattle.member.specs.Member.{Prepared}
 use Rattle.member.specs.Lines.{kept_lines}
 use Rattle.outline.specs.Outline.{ShiftBelow}
@@ -30,18 +28,17 @@ use Rattle.emitted.specs.Emit.{emit, join_lines}
 use Rattle.emission.specs.Emission.{emitted_lines}
 use Rattle.emission.proofs.EmitLaws.{emit_good, emit-past}
 use Rattle.assembled.specs.Assemble.{emit_all}
-use Rattle.joining.specs.declared.Assembled.TheVariants.{Text, Refused}
 use Rattle.joining.specs.Joining.{rule_before, put_answer, Running, AddedBehind}
 use Rattle.joining.proofs.RuleLaws.{join_rule, join-some}
 
 -- ---- one member, by whether a heading goes past level 6
 
 module _ (titles : List ℕ → Option (List ℕ)) (url s : List ℕ) (m : Prepared) (kept : m.lines ≡ kept_lines s) where
-  pub shifted_good : (z : ℤ) → ShiftBelow s (By z) → emit titles url m ≡ good (emitted_lines (rewrite_target titles url (parent_dir m.name)) z s)
+  pub shifted_good : (z : ℤ) → ShiftBelow s (Ok z) → emit titles url m ≡ good (emitted_lines (rewrite_target titles url (parent_dir m.name)) z s)
   shifted_good z h =
       emit_good titles url m s kept h.1.1 ∙ ap (λ (y : ℤ). good (emitted_lines (rewrite_target titles url (parent_dir m.name)) y s)) (sym h.0)
 
-  pub shifted_past : (n : ℕ) → ShiftBelow s (PastAt n) → (xs : List Refusal) × (emit titles url m ≡ flawed (HeadingLevel (place m.file n)) xs)
+  pub shifted_past : (n : ℕ) → ShiftBelow s (Err n) → (xs : List Refusal) × (emit titles url m ≡ flawed (HeadingLevel (place m.file n)) xs)
   shifted_past n h =
       let p = emit-past titles url m s kept h.0 in
       (p.0, p.1 ∙ ap (λ (k : ℕ). flawed (HeadingLevel (place m.file k)) p.0) (sym h.1))
@@ -63,18 +60,18 @@ module _ (B L n : ℕ) (f : Prepared → Part (List (List ℕ))) (k : ℕ) (m : 
     emit-next h = rw (e, le-leb (length (join LF (join_lines ls es))) L h)
 
 module _ {L : ℕ} {f : Prepared → Part (List (List ℕ))} {m : Prepared} (i : ℕ) (t w v : List ℕ) where
-  pub behind_stops : (x : Refusal) (xs : List Refusal) → f m ≡ flawed x xs → AddedBehind L f m i t w v (Refused x)
+  pub behind_stops : (x : Refusal) (xs : List Refusal) → f m ≡ flawed x xs → AddedBehind L f m i t w v (Err x)
   behind_stops x xs e whole k ms r B n = sym (r.left B n) ∙ emit-stops B L n f k m ms r.lines x xs e
 
   module _ (es : List (List ℕ)) (e : f m ≡ good es) (some : 0 < length es) where
     long : {whole : Steps (List ℕ)} {k : ℕ} {ms : List Prepared} (r : Running L f whole k (m ∷ ms) i t) → join LF (join_lines r.lines es) ≡ t ++ (rule_before i ++ join LF es)
     long r = join_rule i r.lines es r.none r.some some ∙ ap (λ (y : List ℕ). y ++ (rule_before i ++ join LF es)) r.made
 
-    pub behind_over : L < length t + length (rule_before i ++ join LF es) → AddedBehind L f m i t w v (Refused (TextLimit (place m.file 0)))
+    pub behind_over : L < length t + length (rule_before i ++ join LF es) → AddedBehind L f m i t w v (Err (TextLimit (place m.file 0)))
     behind_over h whole k ms r B n =
         sym (r.left B n) ∙ emit-over B L n f k m ms r.lines es e (omega (arith, ap length (long r), length-append t (rule_before i ++ join LF es)))
 
-    pub behind-next : (n : ℕ) → n ≤ L → drop L v ≡ drop L w → length t + length (rule_before i ++ join LF es) ≡ n → take n v ≡ t ++ (rule_before i ++ join LF es) → AddedBehind L f m i t w v (Text n)
+    pub behind-next : (n : ℕ) → n ≤ L → drop L v ≡ drop L w → length t + length (rule_before i ++ join LF es) ≡ n → take n v ≡ t ++ (rule_before i ++ join LF es) → AddedBehind L f m i t w v (Ok n)
     behind-next n h d p q whole k ms r = record {
       next = record {
         lines = join_lines r.lines es;
@@ -96,7 +93,7 @@ module _ {room : Room} {x w v : List ℕ} {n : ℕ} (fits : room.limit ≤ lengt
   written_behind = ap (drop room.limit) p.wrote ∙ drop_past w x room.at room.limit (omega (arith, p.place, p.below))
 
 module _ (room : Room) {f : Prepared → Part (List (List ℕ))} {m : Prepared} (i : ℕ) (w : List ℕ) (below : room.at ≤ room.limit) (fits : room.limit ≤ length w) (es : List (List ℕ)) (e : f m ≡ good es) (some : 0 < length es) where
-  pub behind-put : (v : List ℕ) (r : Put) → Wrote room (rule_before i ++ join LF es) w v r → AddedBehind room.limit f m i (take room.at w) w v (put_answer m.file r)
-  behind-put v (To n) p =
+  pub behind-put : (v : List ℕ) (r : Option ℕ) → Wrote room (rule_before i ++ join LF es) w v r → AddedBehind room.limit f m i (take room.at w) w v (put_answer m.file r)
+  behind-put v (Some n) p =
       behind-next i (take room.at w) w v es e some n p.below (written_behind fits p) (omega (arith, p.place, length-take-le room.at w (omega arith))) (written-take fits p)
-  behind-put v Over p = behind_over i (take room.at w) w v es e some (omega (arith, length-take-le room.at w (omega arith)))
+  behind-put v None p = behind_over i (take room.at w) w v es e some (omega (arith, length-take-le room.at w (omega arith)))

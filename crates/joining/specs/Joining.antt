@@ -1,19 +1,15 @@
 -- Members that are joined, for the functions. Nothing here is document 01's: functions promise it, and the laws of `proofs/` tie it to the walk.
-use Rattle.std.specs.Prelude.{ℕ, ◌+◌, ◌≤◌, ◌<◌, zero, suc, ◌≡◌, List, [], ◌∷◌, length, take, drop}
+use Rattle.std.specs.Prelude.{ℕ, ◌+◌, ◌≤◌, ◌<◌, zero, suc, ◌≡◌, List, [], ◌∷◌, length, take, drop, Option, Some, None, Result, Ok, Err}
 use Rattle.answer.specs.Answer.{place}
 use Rattle.answer.specs.declared.Refusal.TheVariants.{TextLimit}
 use Rattle.text.specs.Lines.{LF}
 use Rattle.text.specs.Split.{join}
 use Rattle.walk.specs.Parts.{Part}
 use Rattle.walk.specs.Steps.{Steps, refused, judge}
-use Rattle.put.specs.declared.Put.{Put}
-use Rattle.put.specs.declared.Put.TheVariants.{To, Over}
 use Rattle.member.specs.Member.{Prepared}
 use Rattle.target.specs.Titles.{titles_in}
 use Rattle.emitted.specs.Emit.{emit}
 use Rattle.assembled.specs.Assemble.{emit_all}
-use Rattle.joining.specs.declared.Assembled.{Assembled}
-use Rattle.joining.specs.declared.Assembled.TheVariants.{Text, Refused}
 use Rattle.text.specs.Pattern.{bytes}
 use Rattle.path.specs.Path.{parent_dir}
 use Rattle.link.specs.Target.{rewrite_target}
@@ -40,9 +36,9 @@ abbrev pub emit_in : List ℕ → List ℕ → List ℕ → List ℕ → List �
 emit_in index contents work url set n = emit (titles_in index contents work set n) url
 
 -- a member's answer from what was put
-abbrev pub put_answer : ℕ → Put → Assembled
-put_answer file (To n) = Text n
-put_answer file Over = Refused (TextLimit (place file 0))
+abbrev pub put_answer : ℕ → Option ℕ → Result ℕ Refusal
+put_answer file (Some n) = Ok n
+put_answer file None = Err (TextLimit (place file 0))
 
 -- the lines of i members make the text t, the last of them being file k; from them on the walk comes to what the whole comes to
 pub record Running (L : ℕ) (f : Prepared → Part (List (List ℕ))) (whole : Steps (List ℕ)) (k : ℕ) (ms : List Prepared) (i : ℕ) (t : List ℕ) : Type 0 where
@@ -58,10 +54,10 @@ pub record IsAdded (L : ℕ) (f : Prepared → Part (List (List ℕ))) (whole : 
   pub below : n ≤ L
   pub behind : drop L v ≡ drop L w
 
-abbrev pub Added : ℕ → (Prepared → Part (List (List ℕ))) → Steps (List ℕ) → ℕ → List Prepared → ℕ → List ℕ → List ℕ → Assembled → Type 0
-Added L f whole k ms i w v (Text n) = IsAdded L f whole k ms i w v n
-Added L f whole k ms i w v (Refused x) = (B n : ℕ) → judge B L n whole ≡ refused x
+abbrev pub Added : ℕ → (Prepared → Part (List (List ℕ))) → Steps (List ℕ) → ℕ → List Prepared → ℕ → List ℕ → List ℕ → Result ℕ Refusal → Type 0
+Added L f whole k ms i w v (Ok n) = IsAdded L f whole k ms i w v n
+Added L f whole k ms i w v (Err x) = (B n : ℕ) → judge B L n whole ≡ refused x
 
 -- member m, which is member i, behind the text t, whatever the members after it
-abbrev pub AddedBehind : ℕ → (Prepared → Part (List (List ℕ))) → Prepared → ℕ → List ℕ → List ℕ → List ℕ → Assembled → Type 0
+abbrev pub AddedBehind : ℕ → (Prepared → Part (List (List ℕ))) → Prepared → ℕ → List ℕ → List ℕ → List ℕ → Result ℕ Refusal → Type 0
 AddedBehind L f m i t w v r = (whole : Steps (List ℕ)) (k : ℕ) (ms : List Prepared) → Running L f whole k (m ∷ ms) i t → Added L f whole m.file ms (i + 1) w v r

@@ -9,25 +9,17 @@ ghost use Rattle.emission.specs.Emission.{emitted_text};
 ghost use Rattle.joining.specs.Joining.{rule_before, emit_in, target_in, put_answer, CanEmit, AddedBehind};
 
 use answer::{Place, Refusal};
-use put::{Put, Room};
-use shift::level::Shift;
+use put::Room;
 
 mod read;
 
-// An assembly's answer: how long the text at the front of its buffer is, or a refusal.
-#[derive(Clone, Copy)]
-pub enum Assembled {
-    Text(usize),
-    Refused(Refusal),
-}
-
 // What joins member i to the text before it: nothing before the first.
-fn put_rule(i: usize, room: Room, work: &mut [u8]) -> Put
+fn put_rule(i: usize, room: Room, work: &mut [u8]) -> Option<usize>
     requires { (room.at ≤ room.limit) × (room.limit ≤ length work.old) }
     ensures { Wrote room (rule_before i) work.old work.new result }
 {
     if i == 0 {
-        return Put::To(room.at);
+        return Some(room.at);
     }
     put::put_bytes(b"\n\n---\n\n", room, work)
 }
@@ -43,14 +35,14 @@ fn put_behind(
     shift: i32,
     room: Room,
     work: &mut [u8],
-) -> Put
+) -> Option<usize>
     requires { CanEmit index.now contents.now set.now count room.limit work.old × ((i < count) × ((mag shift ≤ 7) × (room.at ≤ room.limit))) }
     ensures { Wrote room (rule_before i ++ emitted_text (target_in index.now contents.now work.old url.now set.now count (member_at set.now i)) shift
         (source_text (text_source (member_at set.now i)) contents.now work.old)) work.old work.new result }
 {
     let limit = room.limit;
-    let Put::To(at) = put_rule(i, room, work) else {
-        return Put::Over;
+    let Some(at) = put_rule(i, room, work) else {
+        return None;
     };
     let m = members::member_at(set, i);
     let name = m.name;
@@ -73,12 +65,12 @@ fn put_behind(
 }
 
 // How long the text is now, or 17 at a member.
-pub fn answer_of(put: Put, file: usize) -> Assembled
+pub fn answer_of(put: Option<usize>, file: usize) -> Result<usize, Refusal>
     ensures { result ≡ put_answer file put }
 {
     match put {
-        Put::To(len) => Assembled::Text(len),
-        Put::Over => Assembled::Refused(Refusal::TextLimit(Place { file, line: 0 })),
+        Some(len) => Ok(len),
+        None => Err(Refusal::TextLimit(Place { file, line: 0 })),
     }
 }
 
@@ -92,7 +84,7 @@ pub fn emit(
     i: usize,
     room: Room,
     work: &mut [u8],
-) -> Assembled
+) -> Result<usize, Refusal>
     requires { CanEmit index.now contents.now set.now count room.limit work.old × ((i < count) × (room.at ≤ room.limit)) }
     ensures { AddedBehind room.limit (emit_in index.now contents.now work.old url.now set.now count)
         (prepared_in index.now contents.now work.old (member_at set.now i)) i (take room.at work.old) work.old work.new result }
@@ -102,10 +94,10 @@ pub fn emit(
     let outline = m.outline;
     let levels = outline.levels;
     match read::shift_in(contents, work, members::text_of(m), levels) {
-        Shift::By(shift) => answer_of(
+        Ok(shift) => answer_of(
             put_behind(index, contents, url, set, count, i, shift, room, work),
             file,
         ),
-        Shift::PastAt(line) => Assembled::Refused(Refusal::HeadingLevel(Place { file, line })),
+        Err(line) => Err(Refusal::HeadingLevel(Place { file, line })),
     }
 }

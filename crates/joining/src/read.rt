@@ -5,10 +5,10 @@ ghost use Rattle.put.specs.Put.{source_text, Inside};
 ghost use Rattle.outline.specs.Outline.{moved_kinds, ShiftBelow};
 
 use put::Source;
-use shift::level::{Levels, Shift};
+use shift::level::Levels;
 
 // The shift of a member's lines, whose levels are known, or the first line that goes past level 6.
-pub fn shift_in(contents: &[u8], work: &[u8], text: Source, levels: Levels) -> Shift
+pub fn shift_in(contents: &[u8], work: &[u8], text: Source, levels: Levels) -> Result<i32, usize>
     requires { Inside text 0 (length contents.now) (length work.now) × AreLevels (moved_kinds (source_text text contents.now work.now)) levels.top levels.deepest }
     ensures { ShiftBelow (source_text text contents.now work.now) result }
 {

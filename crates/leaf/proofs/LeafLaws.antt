@@ -1,4 +1,5 @@
 -- Laws of the leaf calls: numbers handed in that are levels, and the room for a heading line. Assumes nothing.
+use Rattle.std.specs.Prelude.{Some}
 use Prim.Native.Nat.{ℕ, zero, suc, ◌+◌, ◌-◌, ◌≤◌, ◌<◌}
 use native.Mathlib.Omega.{arith}
 use mathlib.Core.Path.{◌≡◌, refl}
@@ -7,10 +8,9 @@ use borrow.Author.Tests.{le-leb, lt-leb, leb-true, leb-false, ne_eqb}
 use lib.Dec.{leb}
 use lib.IntN.{pos, ◌+ℤ◌}
 use Rattle.heading.specs.Level.{shift_of, moved_to, IsLevel}
-use Rattle.heading.specs.declared.level.TopLevel.TheVariants.{Level}
 use Rattle.leaf.specs.Leaf.{top_of, moved_numbers, moved_of, has_room}
 
-level : (n : ℕ) → top_of (suc n) ≡ Level (suc n)
+level : (n : ℕ) → top_of (suc n) ≡ Some (suc n)
 level n = rw (ne_eqb (suc n) 0 (omega arith))
 
 -- the shallowest level that was handed in

@@ -1,5 +1,5 @@
 -- The answers of the leaf calls as six numbers, by the definitions of `heading`. Assumes nothing: these are definitions.
-use Rattle.std.specs.Prelude.{ℕ, ◌+◌, Bool, cond, not, ◌&&◌, List, [], ◌∷◌, length, eqb, leb, pos, ◌+ℤ◌}
+use Rattle.std.specs.Prelude.{ℕ, ◌+◌, Bool, cond, not, ◌&&◌, List, [], ◌∷◌, length, eqb, leb, pos, ◌+ℤ◌, Option, Some, None}
 use Rattle.std.proofs.lemmas.List.Edits.{sets}
 use Rattle.text.specs.Bytes.{bit}
 use Rattle.heading.specs.Walk.{step_kind, step_after}
@@ -9,10 +9,6 @@ use Rattle.fence.specs.declared.Fence.TheVariants.{Outside, Ticks, Tildes}
 use Rattle.heading.specs.declared.walk.LineKind.{LineKind}
 use Rattle.heading.specs.declared.walk.LineKind.TheVariants.{Quoted, Heading, Other}
 use Rattle.heading.specs.declared.walk.WalkState.{WalkState}
-use Rattle.heading.specs.declared.level.TopLevel.{TopLevel}
-use Rattle.heading.specs.declared.level.TopLevel.TheVariants.{Level, NoHeading}
-use Rattle.heading.specs.declared.level.Moved.{Moved}
-use Rattle.heading.specs.declared.level.Moved.TheVariants.{To, Past}
 
 -- 0, or any other number
 abbrev pub is_on : ℕ → Bool
@@ -44,17 +40,17 @@ abbrev pub step_of : ℕ → ℕ → List ℕ → List ℕ
 step_of n comment l = step_numbers (step_kind (fence_of n) (is_on comment) l) (step_after (fence_of n) (is_on comment) l)
 
 -- the shallowest level, 0 for none
-abbrev pub top_number : TopLevel → ℕ
-top_number (Level n) = n
-top_number NoHeading = 0
+abbrev pub top_number : Option ℕ → ℕ
+top_number (Some n) = n
+top_number None = 0
 
-abbrev pub top_of : ℕ → TopLevel
-top_of n = cond (eqb n 0) NoHeading (Level n)
+abbrev pub top_of : ℕ → Option ℕ
+top_of n = cond (eqb n 0) None (Some n)
 
 -- a moved level: 1 and the level, or 0
-abbrev pub moved_numbers : Moved → List ℕ
-moved_numbers (To n) = 1 ∷ n ∷ 0 ∷ 0 ∷ 0 ∷ 0 ∷ []
-moved_numbers Past = one 0
+abbrev pub moved_numbers : Option ℕ → List ℕ
+moved_numbers (Some n) = 1 ∷ n ∷ 0 ∷ 0 ∷ 0 ∷ 0 ∷ []
+moved_numbers None = one 0
 
 -- target and level are 1 to 7 and the shallowest level is at most 6; with any other numbers the answer is 2
 abbrev pub are_levels : ℕ → ℕ → ℕ → Bool

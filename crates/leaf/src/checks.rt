@@ -2,17 +2,16 @@
 ghost use Rattle.std.specs.Prelude.{◌≡◌};
 ghost use Rattle.leaf.specs.Link.{check_numbers};
 
-use answer::Answer;
-use fileset::check::Checked;
+use answer::{Answer, Refusal};
 
-pub fn of_checked(checked: Checked) -> [u64; 6]
+pub fn of_checked(checked: Result<(), Refusal>) -> [u64; 6]
     ensures { result ≡ check_numbers checked }
 {
     match checked {
-        Checked::Passed => answer::numbers(Answer::Accepted {
+        Ok(()) => answer::numbers(Ok(Answer::Accepted {
             length: 0,
             files: 0,
-        }),
-        Checked::Refused(refusal) => answer::numbers(Answer::Refused(refusal)),
+        })),
+        Err(refusal) => answer::numbers(Err(refusal)),
     }
 }

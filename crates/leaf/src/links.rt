@@ -2,24 +2,23 @@
 ghost use Rattle.std.specs.Prelude.{◌≡◌, min};
 ghost use Rattle.leaf.specs.Link.{link_numbers, target_numbers};
 
-use link::links::NextLink;
-use link::target::Target;
+use link::links::Part;
 
-pub fn of_link(found: NextLink) -> [u64; 6]
+pub fn of_link(found: Option<Part>) -> [u64; 6]
     ensures { result ≡ link_numbers found }
 {
     match found {
-        NextLink::Link { start, end } => [1, start as u64, end as u64, 0, 0, 0],
-        NextLink::NoLink => [0, 0, 0, 0, 0, 0],
+        Some(Part { start, end }) => [1, start as u64, end as u64, 0, 0, 0],
+        None => [0, 0, 0, 0, 0, 0],
     }
 }
 
-pub fn of_target(found: Target) -> [u64; 6]
+pub fn of_target(found: Option<usize>) -> [u64; 6]
     ensures { result ≡ target_numbers found }
 {
     match found {
-        Target::Untouched => [0, 0, 0, 0, 0, 0],
-        Target::Path(end) => [1, end as u64, 0, 0, 0, 0],
+        None => [0, 0, 0, 0, 0, 0],
+        Some(end) => [1, end as u64, 0, 0, 0, 0],
     }
 }
 

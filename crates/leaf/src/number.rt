@@ -4,7 +4,6 @@ ghost use Rattle.leaf.specs.Leaf.{fence_of, state_of, fence_number, step_numbers
 
 use fence::Fence;
 use heading::level;
-use heading::level::{Moved, TopLevel};
 use heading::walk::{LineKind, WalkState};
 use text::bytes;
 
@@ -61,30 +60,30 @@ pub fn one(n: u64) -> [u64; 6]
     [n, 0, 0, 0, 0, 0]
 }
 
-pub fn of_top(found: TopLevel) -> u64
+pub fn of_top(found: Option<usize>) -> u64
     ensures { result ≡ top_number found }
 {
     match found {
-        TopLevel::Level(n) => n as u64,
-        TopLevel::NoHeading => 0,
+        Some(n) => n as u64,
+        None => 0,
     }
 }
 
-fn top(n: u64) -> TopLevel
+fn top(n: u64) -> Option<usize>
     ensures { result ≡ top_of n }
 {
     if n == 0 {
-        return TopLevel::NoHeading;
+        return None;
     }
-    TopLevel::Level(n as usize)
+    Some(n as usize)
 }
 
-fn of_moved(moved: Moved) -> [u64; 6]
+fn of_moved(moved: Option<usize>) -> [u64; 6]
     ensures { result ≡ moved_numbers moved }
 {
     match moved {
-        Moved::To(n) => [1, n as u64, 0, 0, 0, 0],
-        Moved::Past => [0, 0, 0, 0, 0, 0],
+        Some(n) => [1, n as u64, 0, 0, 0, 0],
+        None => [0, 0, 0, 0, 0, 0],
     }
 }
 

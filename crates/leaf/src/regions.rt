@@ -4,17 +4,17 @@ ghost use Rattle.leaf.specs.Region.{kind_number, region_numbers, marker_numbers,
 
 use scan::event::Region;
 use scan::region;
-use scan::region::{Cursor, NextRegion};
+use scan::region::Cursor;
 
 // The next whole region from a place and the number of lines before it on; none where these are no cursor.
-pub fn next_from(text: &[u8], at: u64, line: u64) -> NextRegion
+pub fn next_from(text: &[u8], at: u64, line: u64) -> Option<(Region, Cursor)>
     ensures { NextFrom text.now at line result }
 {
     if (text.len() as u64) < at {
-        return NextRegion::NoMore;
+        return None;
     }
     if at < line {
-        return NextRegion::NoMore;
+        return None;
     }
     region::next_region(
         text,
@@ -34,11 +34,11 @@ fn kind(g: Region) -> u64
     1
 }
 
-pub fn of_region(found: NextRegion) -> [u64; 6]
+pub fn of_region(found: Option<(Region, Cursor)>) -> [u64; 6]
     ensures { result ≡ region_numbers found }
 {
     match found {
-        NextRegion::Whole(g, next) => {
+        Some((g, next)) => {
             let path = g.path;
             [
                 kind(g),
@@ -49,15 +49,15 @@ pub fn of_region(found: NextRegion) -> [u64; 6]
                 0,
             ]
         }
-        NextRegion::NoMore => [0, 0, 0, 0, 0, 0],
+        None => [0, 0, 0, 0, 0, 0],
     }
 }
 
-pub fn of_markers(found: NextRegion) -> [u64; 6]
+pub fn of_markers(found: Option<(Region, Cursor)>) -> [u64; 6]
     ensures { result ≡ marker_numbers found }
 {
     match found {
-        NextRegion::Whole(g, _) => {
+        Some((g, _)) => {
             let opener = g.opener;
             let closer = g.closer;
             [
@@ -69,6 +69,6 @@ pub fn of_markers(found: NextRegion) -> [u64; 6]
                 0,
             ]
         }
-        NextRegion::NoMore => [0, 0, 0, 0, 0, 0],
+        None => [0, 0, 0, 0, 0, 0],
     }
 }

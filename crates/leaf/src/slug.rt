@@ -3,8 +3,6 @@ ghost use Rattle.std.specs.Prelude.{◌≡◌, length, set};
 ghost use Rattle.std.proofs.lemmas.List.Edits.{sets};
 ghost use Rattle.anchor.specs.Anchor.{slug};
 
-use anchor::AnchorByte;
-
 // Writes a byte at a place, if there is one.
 fn put_byte(out: &mut [u8], at: usize, b: u8)
     ensures { out.new ≡ set out.old at b }
@@ -23,12 +21,12 @@ pub fn put(text: &[u8], out: &mut [u8]) -> usize
     loop {
         let x = anchor::next(text, c);
         match x {
-            AnchorByte::Byte(b, d) => {
+            Some((b, d)) => {
                 put_byte(out, n, b);
                 n += 1;
                 c = d;
             }
-            AnchorByte::End => {
+            None => {
                 return n;
             }
         }

@@ -1,13 +1,12 @@
 #![tactic(auto)]
 
 // Leaf functions of the library for C, for tests of the host alone: each answers six numbers.
-ghost use Rattle.std.specs.Prelude.{◌≡◌, length};
+ghost use Rattle.std.specs.Prelude.{◌≡◌, length, None};
 ghost use Rattle.std.proofs.lemmas.List.Edits.{sets};
 ghost use Rattle.anchor.specs.Anchor.{slug};
 ghost use Rattle.heading.specs.Contents.{drops as drops_line};
 ghost use Rattle.heading.specs.Level.{shallowest_of};
 ghost use Rattle.heading.specs.Walk.{walk_begin, kinds_from};
-ghost use Rattle.heading.specs.declared.level.TopLevel.TheVariants.{NoHeading as none};
 ghost use Rattle.leaf.specs.Leaf.{one, is_on, step_of, top_number, moved_of};
 ghost use Rattle.text.specs.Bytes.{bit};
 ghost use Rattle.text.specs.Lines.{pieces};
@@ -47,13 +46,13 @@ pub extern "C" fn leaf_drops(within: u64, line: &[u8], answer: &mut [u64; 6])
 // The shallowest level of a text's headings, or 0.
 #[unsafe(no_mangle)]
 pub extern "C" fn leaf_shallowest(text: &[u8], answer: &mut [u64; 6])
-    ensures { answer.new ≡ one (top_number (shallowest_of none (kinds_from walk_begin (pieces text.now)))) }
+    ensures { answer.new ≡ one (top_number (shallowest_of None (kinds_from walk_begin (pieces text.now)))) }
 {
     let found = level::shallowest(text);
     *answer = number::one(number::of_top(found));
 }
 
-// The level that a heading moves to: 1 and the level, 0 if that is none of 1 to 6, 2 if an argument is none.
+// The level that a heading moves to: 1 and the level, 0 if that is None of 1 to 6, 2 if an argument is None.
 #[unsafe(no_mangle)]
 pub extern "C" fn leaf_moved(target: u64, shallowest: u64, level: u64, answer: &mut [u64; 6])
     ensures { answer.new ≡ moved_of target shallowest level }

@@ -10,9 +10,10 @@ use event_log::sink::To;
 use marker::line::Kind;
 use marker::span;
 use marker::span::{Mark, Stop};
-use scan::event::{Event, Part, Span};
+use scan::event::{Event, Span};
 use scan::state;
-use scan::state::{OpenRegion, State};
+use scan::state::State;
+use text::part::Part;
 
 // Where what follows the spans of a line goes, and how their reading stopped.
 #[derive(Clone, Copy)]
@@ -84,7 +85,7 @@ fn put_marked(line: &[u8], o: usize, n: usize, log: &mut [usize], out: &mut [u8]
 
 // The region that line n, at place o, closes.
 fn put_closed(
-    region: OpenRegion,
+    region: Option<Opener>,
     n: usize,
     o: usize,
     log: &mut [usize],
@@ -94,8 +95,8 @@ fn put_closed(
     ensures { sink result log.new out.new ≡ put_all (closed_by n o region) (sink at log.old out.old) }
 {
     match region {
-        OpenRegion::Closed => at,
-        OpenRegion::Open(g) => sink::put(log, out, at, Event::OfRegion(state::closed(g, n, o))),
+        None => at,
+        Some(g) => sink::put(log, out, at, Event::OfRegion(state::closed(g, n, o))),
     }
 }
 

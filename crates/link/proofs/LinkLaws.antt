@@ -1,4 +1,5 @@
 -- Laws of `specs/Links.antt`: what a line's links become, by its first link, which the search for `](` and then for `)` finds. Assumes nothing.
+use Rattle.std.specs.Prelude.{Option, Some, None}
 use Prim.Native.Nat.{ℕ, suc, ◌+◌, ◌-◌, ◌≤◌, ◌<◌}
 use native.Mathlib.Nat.{le_of_suc-le-suc, not-suc-le-zero}
 use native.Mathlib.Omega.{arith}
@@ -11,12 +12,9 @@ use lib.Dec.{eqb}
 use borrow.Author.Tests.{eqb-true}
 use Rattle.text.specs.Bytes.{part, is, first}
 use Rattle.text.specs.Pattern.{bytes, starts_with, find, later}
-use Rattle.text.specs.declared.pattern.Found.{Found}
-use Rattle.text.specs.declared.pattern.Found.TheVariants.{At, Nothing}
 use Rattle.text.proofs.BytesLaws.{rest, rest-length}
 use Rattle.text.proofs.PatternLaws.{starts-long, find-within}
 use Rattle.link.specs.Links.{relink, relink_open, relink_target, FoundLink}
-use Rattle.link.specs.declared.links.NextLink.TheVariants.{Link}
 
 relink_on : (f : List ℕ → List ℕ) (x : ℕ) (s : List ℕ) → starts_with (bytes "](") (x ∷ s) ≡ false → relink f (x ∷ s) ≡ x ∷ relink f s
 unfolding relink
@@ -60,27 +58,27 @@ unfolding relink relink_open
 relink-here f x [] e = absurd (omega (arith, starts-long (bytes "](") (x ∷ []) e))
 relink-here f x (y ∷ s) e = rw e
 
-abbrev Opened : (List ℕ → List ℕ) → List ℕ → Found → Type 0
-Opened f s (At i) = relink f s ≡ take (i + 2) s ++ relink_target f [] (drop (i + 2) s)
-Opened f s Nothing = relink f s ≡ s
+abbrev Opened : (List ℕ → List ℕ) → List ℕ → Option ℕ → Type 0
+Opened f s (Some i) = relink f s ≡ take (i + 2) s ++ relink_target f [] (drop (i + 2) s)
+Opened f s None = relink f s ≡ s
 
 opened : (f : List ℕ → List ℕ) (s : List ℕ) → Opened f s (find (bytes "](") s)
 unfolding find relink starts_with
 opened f [] = refl
 opened f (x ∷ s) = go (starts_with (bytes "](") (x ∷ s)) (find (bytes "](") s) refl (opened f s)
   where
-    go : (b : Bool) (r : Found) → starts_with (bytes "](") (x ∷ s) ≡ b → Opened f s r → Opened f (x ∷ s) (cond b (At 0) (later 1 r))
+    go : (b : Bool) (r : Option ℕ) → starts_with (bytes "](") (x ∷ s) ≡ b → Opened f s r → Opened f (x ∷ s) (cond b (Some 0) (later 1 r))
     go true r e h = relink-here f x s e
-    go false (At i) e h =
+    go false (Some i) e h =
         let k : 1 + i + 2 ≡ suc (i + 2) = omega arith in
         relink_on f x s e ∙ rw (k, h)
-    go false Nothing e h = relink_on f x s e ∙ rw h
+    go false None e h = relink_on f x s e ∙ rw h
 
 -- a line from place n on: with no `](`; and with the first one i bytes further and the first `)` after that at place e
-pub none_found : (l : List ℕ) (n : ℕ) → find (bytes "](") (part n (length l) l) ≡ Nothing → (f : List ℕ → List ℕ) → relink f (drop n l) ≡ drop n l
+pub none_found : (l : List ℕ) (n : ℕ) → find (bytes "](") (part n (length l) l) ≡ None → (f : List ℕ → List ℕ) → relink f (drop n l) ≡ drop n l
 none_found l n e f = subst (Opened f (drop n l)) (rw rest at e) (opened f (drop n l))
 
-module _ (l : List ℕ) (n i : ℕ) (found : find (bytes "](") (part n (length l) l) ≡ At i) where
+module _ (l : List ℕ) (n i : ℕ) (found : find (bytes "](") (part n (length l) l) ≡ Some i) where
   pub target-within : n ≤ length l → n + i + 2 ≤ length l
   target-within h = omega (arith, find-within (bytes "](") (part n (length l) l) i found, rest-length l n)
 
@@ -108,7 +106,7 @@ module _ (l : List ℕ) (n i : ℕ) (found : find (bytes "](") (part n (length l
         target-from f ∙ rw (target_open f [] (drop a l) (omega (arith, length-drop a l)), ← target_at) (take-append-drop (i + 2) (drop n l))
 
 -- a link takes bytes, since it can become any text
-pub link_long : (l : List ℕ) (i a e : ℕ) → FoundLink l i (Link a e) → i < e
+pub link_long : (l : List ℕ) (i a e : ℕ) → FoundLink l i (Some (record { start = a; end = e })) → i < e
 link_long l i a e h =
     let f : List ℕ → List ℕ = λ t. 0 ∷ [] in
     let d : e ≡ i → ⊥ =

@@ -1,4 +1,5 @@
 -- Laws of `specs/Target.antt`: where a target's path ends, and what a target becomes in a file that is taken into a host. Assumes nothing.
+use Rattle.std.specs.Prelude.{Option, Some, None}
 use Prim.Native.Nat.{ℕ, ◌≤◌}
 use native.Mathlib.Omega.{arith}
 use mathlib.Core.Path.{◌≡◌, subst}
@@ -13,19 +14,17 @@ use Rattle.text.specs.Pattern.{equals}
 use Rattle.text.proofs.BytesLaws.{first_le}
 use Rattle.path.specs.Path.{resolve}
 use Rattle.link.specs.Target.{is_right, target_of, anchor_self}
-use Rattle.link.specs.declared.target.Target.{Target}
-use Rattle.link.specs.declared.target.Target.TheVariants.{Untouched, Path}
 
 -- a path ends within its target
-abbrev Inside : List ℕ → Target → Type 0
-Inside t Untouched = Unit {0}
-Inside t (Path e) = e ≤ length t
+abbrev Inside : List ℕ → Option ℕ → Type 0
+Inside t None = Unit {0}
+Inside t (Some e) = e ≤ length t
 
-pub path-within : (t : List ℕ) (e : ℕ) → target_of t ≡ Path e → e ≤ length t
+pub path-within : (t : List ℕ) (e : ℕ) → target_of t ≡ Some e → e ≤ length t
 unfolding target_of
 path-within t e p = subst (Inside t) p (go (is_right t || eqb (length t) 0))
   where
-    go : (b : Bool) → Inside t (cond b Untouched (Path (first (is 0x23) t)))
+    go : (b : Bool) → Inside t (cond b None (Some (first (is 0x23) t)))
     go true = tt
     go false = first_le (is 0x23) t
 
@@ -35,11 +34,11 @@ fragment_some t e h q = ne_eqb (length (drop e t)) 0 (λ z. q (omega (arith, len
 
 -- what a target becomes in a file that is taken into a host
 module _ (host dir t : List ℕ) where
-  pub anchor_untouched : target_of t ≡ Untouched → t ≡ anchor_self host dir t
+  pub anchor_untouched : target_of t ≡ None → t ≡ anchor_self host dir t
   unfolding anchor_self
   anchor_untouched p = rw p
 
-  module _ (e : ℕ) (p : target_of t ≡ Path e) where
+  module _ (e : ℕ) (p : target_of t ≡ Some e) where
     pub anchor_bare : e ≡ length t → t ≡ anchor_self host dir t
     unfolding anchor_self
     anchor_bare q = rw (p, q, drop-length t, and-false (equals host (resolve dir (take (length t) t))))

@@ -2,31 +2,24 @@
 ghost use Rattle.std.specs.Prelude.{◌≤◌, length};
 ghost use Rattle.link.specs.Links.{FoundLink};
 
-use text::pattern::Found;
+use text::part::Part;
 use text::{bytes, pattern};
 
-// Where a link's target starts and ends, or that no link follows.
-#[derive(Clone, Copy)]
-pub enum NextLink {
-    Link { start: usize, end: usize },
-    NoLink,
-}
-
 // The first link from a place on.
-pub fn next_link(line: &[u8], from: usize) -> NextLink
+pub fn next_link(line: &[u8], from: usize) -> Option<Part>
     requires { from ≤ length line.now }
     ensures { FoundLink line.now from result }
 {
     let f = pattern::find(&line[from..], b"](");
     match f {
-        Found::At(i) => {
+        Some(i) => {
             let start = from + i + 2;
             let end = bytes::find_byte(line, start, b')');
             if end == line.len() {
-                return NextLink::NoLink;
+                return None;
             }
-            NextLink::Link { start, end }
+            Some(Part { start, end })
         }
-        Found::Nothing => NextLink::NoLink,
+        None => None,
     }
 }

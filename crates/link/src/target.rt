@@ -4,13 +4,6 @@ ghost use Rattle.link.specs.Target.{is_right, target_of, trim_slashes, anchor_se
 
 use text::{bytes, pattern};
 
-// A target that stays as it is, or a path up to a place, from which on it is the fragment.
-#[derive(Clone, Copy)]
-pub enum Target {
-    Untouched,
-    Path(usize),
-}
-
 // Whether a target is a URL, a mail address or an anchor.
 fn is_right(target: &[u8]) -> bool
     ensures { result ≡ is_right target.now }
@@ -25,16 +18,16 @@ fn is_right(target: &[u8]) -> bool
 }
 
 // Takes a target apart.
-pub fn read_target(target: &[u8]) -> Target
+pub fn read_target(target: &[u8]) -> Option<usize>
     ensures { result ≡ target_of target.now }
 {
     if is_right(target) {
-        return Target::Untouched;
+        return None;
     }
     if target.len() == 0 {
-        return Target::Untouched;
+        return None;
     }
-    Target::Path(bytes::find_byte(target, 0, b'#'))
+    Some(bytes::find_byte(target, 0, b'#'))
 }
 
 // From which place on a target's bytes stay in a file that is taken into a host.
@@ -42,8 +35,8 @@ pub fn anchor_self(target: &[u8], dir: &[u8], host: &[u8]) -> usize
     ensures { (drop result target.now ≡ anchor_self host.now dir.now target.now) × (result ≤ length target.now) }
 {
     match read_target(target) {
-        Target::Untouched => 0,
-        Target::Path(e) => {
+        None => 0,
+        Some(e) => {
             if e == target.len() {
                 return 0;
             }

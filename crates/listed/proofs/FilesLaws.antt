@@ -1,5 +1,6 @@
 -- Laws of `specs/Files.antt`: once nothing is refused before the walk, the list lines name records, and the members that are written for them lie in index and contents and are
 -- the members of the list. Assumes nothing.
+use Rattle.std.specs.Prelude.{Option, Some, None, Ok}
 use Prim.Native.Nat.{ℕ, zero, suc, ◌+◌, ◌*◌, ◌≤◌, ◌<◌}
 use native.Mathlib.Nat.{add-zero, not-suc-le-zero}
 use native.Mathlib.Omega.{arith}
@@ -12,14 +13,11 @@ use borrow.Author.Count.{below_more}
 use Rattle.text.specs.Bytes.{is, count}
 use Rattle.text.specs.Lines.{LF}
 use Rattle.text.specs.Pattern.{is_at}
-use Rattle.text.specs.declared.pattern.Found.{Found}
-use Rattle.text.specs.declared.pattern.Found.TheVariants.{At, Nothing}
 use Rattle.index.specs.Index.{Record, File, files_from as recordFiles, records, files, find_record}
 use Rattle.index.specs.Rows.{row_at}
 use Rattle.index.proofs.RowsLaws.{files-length}
 use Rattle.fileset.specs.Members.{names, absent_from, record_found, members_from, members}
 use Rattle.fileset.specs.Check.{book_checked, Passes, Listed}
-use Rattle.fileset.specs.declared.check.Checked.TheVariants.{Passed}
 use Rattle.fileset.proofs.CheckLaws.{rows_named}
 use Rattle.fileset.proofs.PassedLaws.{book-named}
 use Rattle.chains.specs.Chains.{file_at}
@@ -33,7 +31,7 @@ use Rattle.listed.specs.Files.{member_of, line_member, AreListed, AreFiles}
 use Rattle.index.proofs.NameLaws.{row-short}
 
 -- a name's record is one of them, and there is one for each name
-found_below : (l : List ℕ) (rs : List Record) (k : ℕ) → find_record l rs ≡ At k → k < length rs
+found_below : (l : List ℕ) (rs : List Record) (k : ℕ) → find_record l rs ≡ Some k → k < length rs
 found_below l rs k e = omega (arith, find-within l (recordFiles 1 [] rs) k (find-files l 1 [] rs ∙ e), files-length 1 [] rs)
 
 members-below : (rs : List Record) (n : ℕ) (ls : List (List ℕ)) → 0 < n → absent_from n rs ls ≡ 0 → (i : ℕ) → i < length ls → get_or (members_from rs ls) i 0 < length rs
@@ -41,12 +39,12 @@ unfolding absent_from members_from
 members-below rs n [] h e i j = absurd (not-suc-le-zero j)
 members-below rs n (l ∷ ls) h e i j = go (find_record l rs) refl e i j (λ q. members-below rs (n + 1) ls (omega arith) q)
   where
-    go : (o : Found) → find_record l rs ≡ o → cond (is_at o) (absent_from (n + 1) rs ls) n ≡ 0 → (i : ℕ) → i < suc (length ls)
+    go : (o : Option ℕ) → find_record l rs ≡ o → cond (is_at o) (absent_from (n + 1) rs ls) n ≡ 0 → (i : ℕ) → i < suc (length ls)
         → (absent_from (n + 1) rs ls ≡ 0 → (k : ℕ) → k < length ls → get_or (members_from rs ls) k 0 < length rs)
         → get_or (record_found o ∷ members_from rs ls) i 0 < length rs
-    go (At k) p q zero t ih = found_below l rs k p
-    go (At k) p q (suc i) t ih = ih q i (omega arith)
-    go Nothing p q i t ih = absurd (omega arith)
+    go (Some k) p q zero t ih = found_below l rs k p
+    go (Some k) p q (suc i) t ih = ih q i (omega arith)
+    go None p q i t ih = absurd (omega arith)
 
 members-length : (rs : List Record) (ls : List (List ℕ)) → length (members_from rs ls) ≡ length ls
 unfolding members_from
@@ -88,8 +86,8 @@ rows_ready {index} {contents} {rows} {n} q c =
     record { few = omega (arith, q.few); named = rows_named q.told e; within = rw e q.within }
 
 -- and of the n lines of the list
-module _ (index contents list url rows lines : List ℕ) (limit out work n : ℕ) (p : book_checked index contents list url limit out work ≡ Passed)
-    (q : Passes index contents rows) (l : Listed (records index) list lines Passed) (c : n ≡ length (names list)) where
+module _ (index contents list url rows lines : List ℕ) (limit out work n : ℕ) (p : book_checked index contents list url limit out work ≡ (Ok tt))
+    (q : Passes index contents rows) (l : Listed (records index) list lines (Ok tt)) (c : n ≡ length (names list)) where
   line-member : (i : ℕ) → i < n → get_or (members (records index) list) i 0 ≡ get_or lines i 0
   line-member i h = ap (λ (M : List ℕ). get_or M i 0) (sym l.1) ∙ get_or-take (length (names list)) lines i 0 (omega arith)
 

@@ -1,6 +1,5 @@
 -- The members that list lines name, each as it stands in the contents. Nothing here is document 01's: inner functions promise it, and the laws of `proofs/` tie it to the members.
-use Rattle.std.specs.Prelude.{ℕ, ◌+◌, ◌≤◌, ◌<◌, ◌≡◌, false, List, length, get_or}
-use Rattle.heading.specs.declared.level.TopLevel.TheVariants.{NoHeading}
+use Rattle.std.specs.Prelude.{ℕ, ◌+◌, ◌≤◌, ◌<◌, ◌≡◌, false, List, length, get_or, None}
 use Rattle.index.specs.Rows.{row_at}
 use Rattle.index.specs.declared.rows.Row.{Row}
 use Rattle.outline.specs.declared.Outline.{Outline}
@@ -8,7 +7,7 @@ use Rattle.members.specs.Members.{member_at}
 use Rattle.members.specs.declared.Member.{Member}
 
 abbrev pub no_outline : Outline
-no_outline = record { end = 0; title = record { start = 0; end = 0 }; levels = record { top = NoHeading; deepest = 0 } }
+no_outline = record { end = 0; title = record { start = 0; end = 0 }; levels = record { top = None; deepest = 0 } }
 
 -- the member that is the file of record k, counted from 0, by its row, before it is prepared
 abbrev pub member_of : ℕ → Row → Member

@@ -4,24 +4,24 @@
 ghost use Rattle.std.specs.Prelude.{◌≡◌, ◌+◌, ◌≤◌, ◌<◌, length};
 ghost use Rattle.listed.specs.Files.{no_outline, member_of, AreListed, AreFiles};
 
-use heading::level::TopLevel;
 use index::rows::Row;
 use members::Member;
-use outline::{Extent, Outline};
+use outline::Outline;
 use put::Source;
 use shift::level::Levels;
+use text::part::Part;
 
 // What is known before a member is prepared.
 pub fn no_outline() -> Outline
     ensures { result ≡ no_outline }
 {
     let levels = Levels {
-        top: TopLevel::NoHeading,
+        top: None,
         deepest: 0,
     };
     Outline {
         end: 0,
-        title: Extent { start: 0, end: 0 },
+        title: Part { start: 0, end: 0 },
         levels,
     }
 }
@@ -32,7 +32,7 @@ fn member_of(k: usize, row: Row) -> Member
     ensures { result ≡ member_of k row }
 {
     Member {
-        name: Extent {
+        name: Part {
             start: row.name,
             end: row.end,
         },

@@ -1,4 +1,5 @@
 -- Laws of `specs/ScanCall.antt`: the answer and the output of the scan call, by its tests. Assumes nothing.
+use Rattle.std.specs.Prelude.{Result, Ok, Err}
 use Prim.Native.Nat.{ℕ, ◌≤◌, ◌<◌}
 use native.Mathlib.Omega.{arith}
 use mathlib.Core.Path.{◌≡◌, refl, subst}
@@ -10,44 +11,45 @@ use borrow.Author.Tests.{le-leb, lt-leb, leb-true, ne_eqb}
 use Rattle.text.specs.Ascii.{wide_line}
 use Rattle.answer.specs.Answer.{place}
 use Rattle.answer.specs.declared.Answer.{Answer}
-use Rattle.answer.specs.declared.Answer.TheVariants.{Accepted, NoRegion, Refused}
+use Rattle.answer.specs.declared.Refusal.{Refusal}
+use Rattle.answer.specs.declared.Answer.TheVariants.{Accepted, NoRegion}
 use Rattle.answer.specs.declared.Refusal.TheVariants.{WideByte, TextLimit}
 use Rattle.listing.specs.Listing.{listing}
 use Rattle.listing.specs.ScanCall.{answer_of, output_of}
 
 -- n is the listing's length, as it was counted, of a text without wide bytes
 module _ (s out : List ℕ) (n : ℕ) (wide : wide_line 1 s ≡ 0) where
-  pub fits-answer : n ≤ length out → n ≡ length (listing s) → Accepted n 0 ≡ answer_of (length out) s
+  pub fits-answer : n ≤ length out → n ≡ length (listing s) → Ok (Accepted n 0) ≡ answer_of (length out) s
   unfolding answer_of
   fits-answer h e = rw (wide, le-leb (length (listing s)) (length out) (omega arith), e)
 
-  pub fits-output : n ≡ length (listing s) → {bytes : List ℕ} → bytes ≡ listing s ++ drop (length (listing s)) out → bytes ≡ output_of (Accepted n 0) s out
+  pub fits-output : n ≡ length (listing s) → {bytes : List ℕ} → bytes ≡ listing s ++ drop (length (listing s)) out → bytes ≡ output_of (Ok (Accepted n 0)) s out
   unfolding output_of
   fits-output e h = rw e h
 
-  pub short-answer : length out < length (listing s) → Refused (TextLimit (place 0 0)) ≡ answer_of (length out) s
+  pub short-answer : length out < length (listing s) → Err (TextLimit (place 0 0)) ≡ answer_of (length out) s
   unfolding answer_of
   short-answer h = rw (wide, lt-leb (length (listing s)) (length out) h)
 
-pub wide_answer : (s : List ℕ) (room n : ℕ) → n ≡ wide_line 1 s → (n ≡ 0 → ⊥) → Refused (WideByte (place 0 n)) ≡ answer_of room s
+pub wide_answer : (s : List ℕ) (room n : ℕ) → n ≡ wide_line 1 s → (n ≡ 0 → ⊥) → Err (WideByte (place 0 n)) ≡ answer_of room s
 unfolding answer_of
 wide_answer s room n e h = rw (← e, ne_eqb n 0 h)
 
 -- an accepted listing lies within the room
-abbrev Within : ℕ → Answer → Type 0
-Within room (Accepted n f) = n ≤ room
-Within room NoRegion = Unit {0}
-Within room (Refused r) = Unit {0}
+abbrev Within : ℕ → Result Answer Refusal → Type 0
+Within room (Ok (Accepted n f)) = n ≤ room
+Within room (Ok NoRegion) = Unit {0}
+Within room (Err r) = Unit {0}
 
 within : (room : ℕ) (s : List ℕ) → Within room (answer_of room s)
 unfolding answer_of
 within room s = go (eqb (wide_line 1 s) 0) (leb (length (listing s)) room) refl
   where
     go : (w b : Bool) → leb (length (listing s)) room ≡ b
-        → Within room (cond w (cond b (Accepted (length (listing s)) 0) (Refused (TextLimit (place 0 0)))) (Refused (WideByte (place 0 (wide_line 1 s)))))
+        → Within room (cond w (cond b (Ok (Accepted (length (listing s)) 0)) (Err (TextLimit (place 0 0)))) (Err (WideByte (place 0 (wide_line 1 s)))))
     go true true e = leb-true (length (listing s)) room e
     go true false e = tt
     go false b e = tt
 
-pub accepted_within : (room : ℕ) (s : List ℕ) (n f : ℕ) → answer_of room s ≡ Accepted n f → n ≤ room
+pub accepted_within : (room : ℕ) (s : List ℕ) (n f : ℕ) → answer_of room s ≡ Ok (Accepted n f) → n ≤ room
 accepted_within room s n f e = subst (Within room) e (within room s)

@@ -9,13 +9,13 @@ use answer::{Answer, Place, Refusal};
 pub mod listing;
 
 // Scans a text and writes its listing.
-pub fn scan(text: &[u8], out: &mut [u8]) -> Answer
+pub fn scan(text: &[u8], out: &mut [u8]) -> Result<Answer, Refusal>
     ensures value { result ≡ answer_of (length out.old) text.now }
     ensures out_after { out.new ≡ output_of result text.now out.old }
 {
     let n = text::ascii::wide_line(text);
     if n != 0 {
-        return Answer::Refused(Refusal::WideByte(Place { file: 0, line: n }));
+        return Err(Refusal::WideByte(Place { file: 0, line: n }));
     }
     listing::list(text, out)
 }

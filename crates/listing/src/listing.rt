@@ -37,7 +37,7 @@ fn put_logged(log: &[usize], n: usize, out: &mut [u8], at: Places)
 }
 
 // Writes the listing of a text without wide bytes, if it fits, with a log lent for what the scan finds.
-fn list_with(s: &[u8], log: &mut [usize], out: &mut [u8]) -> Answer
+fn list_with(s: &[u8], log: &mut [usize], out: &mut [u8]) -> Result<Answer, Refusal>
     requires { wide_line 1 s.now ≡ 0 }
     ensures value { result ≡ answer_of (length out.old) s.now }
     ensures out_after { out.new ≡ output_of result s.now out.old }
@@ -58,11 +58,11 @@ fn list_with(s: &[u8], log: &mut [usize], out: &mut [u8]) -> Answer
     let places = behind(counted);
     let length = rows::add(places.problems, counted.problems);
     if out.len() < length {
-        return Answer::Refused(Refusal::TextLimit(Place { file: 0, line: 0 }));
+        return Err(Refusal::TextLimit(Place { file: 0, line: 0 }));
     }
     if found.whole {
         put_logged(log, found.words, out, places);
-        return Answer::Accepted { length, files: 0 };
+        return Ok(Answer::Accepted { length, files: 0 });
     }
     let mut no_log = [0usize; 0];
     events::put_scan(
@@ -74,11 +74,11 @@ fn list_with(s: &[u8], log: &mut [usize], out: &mut [u8]) -> Answer
             kept: found,
         },
     );
-    Answer::Accepted { length, files: 0 }
+    Ok(Answer::Accepted { length, files: 0 })
 }
 
 // Writes the listing of a text without wide bytes, if it fits. A short text is not worth the clearing of a long log.
-pub fn list(s: &[u8], out: &mut [u8]) -> Answer
+pub fn list(s: &[u8], out: &mut [u8]) -> Result<Answer, Refusal>
     requires { wide_line 1 s.now ≡ 0 }
     ensures value { result ≡ answer_of (length out.old) s.now }
     ensures out_after { out.new ≡ output_of result s.now out.old }

@@ -1,4 +1,5 @@
 -- One member that stands in the contents, filled in its slot. Assumes nothing.
+use Rattle.std.specs.Prelude.{Result}
 use Prim.Native.Nat.{ℕ, suc, ◌-◌, ◌*◌, ◌≤◌}
 use native.Mathlib.Omega.{arith}
 use mathlib.Core.Path.{◌≡◌, ap}
@@ -11,7 +12,8 @@ use Rattle.walk.specs.Outcome.{Outcome}
 use Rattle.chains.specs.Chains.{free, no_marks, chain, start_at}
 use Rattle.chains.specs.Fill.{filled}
 use Rattle.filling.specs.Filling.{read_filled}
-use Rattle.filling.specs.declared.Filled.{Filled}
+use Rattle.answer.specs.declared.Answer.{Answer}
+use Rattle.answer.specs.declared.Refusal.{Refusal}
 use Rattle.filling.proofs.RoomLaws.{free-none, lent_length, back_take, back_drop}
 use Rattle.put.specs.Put.{Inside}
 use Rattle.put.specs.declared.Source.{Source}
@@ -31,7 +33,7 @@ module _ {index rows : List ℕ} {room n L at : ℕ} {m : Member} (w : List ℕ)
 
   -- the buffer once the slot has come back
   module _ (y : List ℕ) (k : length y ≡ length w - at) where
-    pub slot_read : (r : Filled) → read_filled r (drop at (take at w ++ (y ++ drop (length w - at) (drop at w)))) ≡ read_filled r y
+    pub slot_read : (r : Result Answer Refusal) → read_filled r (drop at (take at w ++ (y ++ drop (length w - at) (drop at w)))) ≡ read_filled r y
     slot_read r = ap (read_filled r) (back_drop w y at slot_in k)
 
     pub slot_kept : take at (take at w ++ (y ++ drop (length w - at) (drop at w))) ≡ take at w

@@ -1,4 +1,5 @@
 -- Once nothing is refused before the walk, the members that stand for a list's lines can be made. Assumes nothing.
+use Rattle.std.specs.Prelude.{Ok}
 use Prim.Native.Nat.{ℕ}
 use mathlib.Core.Path.{◌≡◌, ◌∙◌, ap}
 use mathlib.Core.List.{List}
@@ -8,7 +9,6 @@ use Rattle.text.specs.Lines.{LF}
 use Rattle.index.specs.Index.{File, files_from as recordFiles, records, files}
 use Rattle.fileset.specs.Members.{names, members}
 use Rattle.fileset.specs.Check.{book_checked, Passes, Listed}
-use Rattle.fileset.specs.declared.check.Checked.TheVariants.{Passed}
 use Rattle.fileset.proofs.CheckLaws.{rows_same}
 use Rattle.fileset.proofs.PassedLaws.{book_fit}
 use Rattle.opening.specs.Opening.{files_in}
@@ -19,8 +19,8 @@ use Rattle.book.specs.BookWalk.{book}
 use Rattle.made.specs.Made.{CanMake, book_of}
 use Rattle.made.proofs.BookLaws.{book-listed}
 
-module _ (index contents list url rows lines : List ℕ) (limit out work n m : ℕ) (p : book_checked index contents list url limit out work ≡ Passed)
-    (q : Passes index contents rows) (l : Listed (records index) list lines Passed) (c : n ≡ length (names list)) (r : m ≡ count (is LF) index)
+module _ (index contents list url rows lines : List ℕ) (limit out work n m : ℕ) (p : book_checked index contents list url limit out work ≡ (Ok tt))
+    (q : Passes index contents rows) (l : Listed (records index) list lines (Ok tt)) (c : n ≡ length (names list)) (r : m ≡ count (is LF) index)
     {set : List ℕ} (s : AreFiles rows lines set n) where
   counted : m ≡ length (records index)
   counted = r ∙ q.lines

@@ -1,6 +1,6 @@
 -- The members of a book, each filled in its slot of the work buffer or kept as it stands in the contents. Nothing here is document 01's: functions promise it, and the laws of
 -- `proofs/` tie it to the walk of the book.
-use Rattle.std.specs.Prelude.{ℕ, suc, ◌+◌, ◌*◌, ◌≤◌, ◌<◌, ◌≡◌, false, List, map, length}
+use Rattle.std.specs.Prelude.{ℕ, suc, ◌+◌, ◌*◌, ◌≤◌, ◌<◌, ◌≡◌, false, List, map, length, Result, Ok, Err}
 use Rattle.index.specs.Index.{File}
 use Rattle.walk.specs.Steps.{Steps, go, Judged, given, refused, judge}
 use Rattle.chains.specs.Chains.{start_at}
@@ -12,8 +12,6 @@ use Rattle.members.specs.declared.Member.{Member}
 use Rattle.listed.specs.Files.{no_outline}
 use Rattle.book.specs.Book.{with_texts}
 use Rattle.book.specs.BookWalk.{walk_all}
-use Rattle.made.specs.declared.Made.{Made}
-use Rattle.made.specs.declared.Made.TheVariants.{All, Refused}
 
 -- where the slot of list line i begins, counted from 0; the first slot is the assembled text's
 abbrev pub slot : ℕ → ℕ → ℕ
@@ -54,6 +52,6 @@ pub record AreMade (B L : ℕ) (S hs fs : List File) (n : ℕ) : Type 0 where
   pub judged : judged_all B L S hs ≡ given (texts_of fs) n
   pub same : fs ≡ with_texts hs (texts_of fs)
 
-abbrev pub MadeOf : ℕ → ℕ → List File → List File → List File → Made → Type 0
-MadeOf B L S hs fs (All n) = AreMade B L S hs fs n
-MadeOf B L S hs fs (Refused x) = judged_all B L S hs ≡ refused x
+abbrev pub MadeOf : ℕ → ℕ → List File → List File → List File → Result ℕ Refusal → Type 0
+MadeOf B L S hs fs (Ok n) = AreMade B L S hs fs n
+MadeOf B L S hs fs (Err x) = judged_all B L S hs ≡ refused x

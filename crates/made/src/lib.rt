@@ -9,18 +9,10 @@ ghost use Rattle.filling.specs.Filling.{read_filled, FilledWithin};
 ghost use Rattle.members.specs.Members.{file_in, files_from, AllLie};
 ghost use Rattle.made.specs.Made.{slot, placed_at, CanFill, CanMake, MadeOf};
 
-use answer::Refusal;
-use filling::Filled;
+use answer::{Answer, Refusal};
 use members::Member;
 use opening::Filling;
 use put::Source;
-
-// All members are made, with the number of files taken in, or one is refused.
-#[derive(Clone, Copy)]
-pub enum Made {
-    All(usize),
-    Refused(Refusal),
-}
 
 // A member whose text lies at another place now.
 fn placed(m: Member, source: Source) -> Member
@@ -44,7 +36,7 @@ fn fill_member(
     at: Filling,
     slot: usize,
     work: &mut [u8],
-) -> Filled
+) -> Result<Answer, Refusal>
     requires { CanFill index.now rows.now (length contents.now) m at.count at.limit slot (length work.old) × (at.number ≡ m.file) }
     ensures work_after { read_filled result (drop slot work.new) ≡ filled at.allowance at.limit at.used
         (start_at (files_in index.now rows.now contents.now at.count) (file_in index.now contents.now work.old m)) }
@@ -81,7 +73,7 @@ pub fn put_made(
     set: &mut [usize; 704],
     count: usize,
     work: &mut [u8],
-) -> Made
+) -> Result<usize, Refusal>
     requires { CanMake index.now rows.now (length contents.now) set.old records count limit (length work.old) }
     ensures made_of { MadeOf allowance limit (files_in index.now rows.now contents.now records) (files_from index.now contents.now work.old set.old 0 count)
         (files_from index.now contents.now work.new set.new 0 count) result }
@@ -100,7 +92,7 @@ pub fn put_made(
         };
         let slot = (i + 1) * limit;
         match fill_member(index, rows, contents, m, at, slot, work) {
-            Filled::Text { length, files } => {
+            Ok(Answer::Accepted { length, files }) => {
                 let end = slot + length;
                 let filled = Source {
                     work: true,
@@ -111,13 +103,13 @@ pub fn put_made(
                 used = files;
                 i += 1;
             }
-            Filled::NoRegion => {
+            Ok(Answer::NoRegion) => {
                 i += 1;
             }
-            Filled::Refused(refusal) => {
-                return Made::Refused(refusal);
+            Err(refusal) => {
+                return Err(refusal);
             }
         }
     }
-    Made::All(used)
+    Ok(used)
 }

@@ -1,4 +1,5 @@
 -- Laws of `specs/Marker.antt`: where a span lies, and what follows from the kind of a line. Assumes nothing.
+use Rattle.std.specs.Prelude.{Option, Some, None}
 use Prim.Native.Nat.{ℕ, ◌+◌, ◌≤◌, ◌<◌}
 use native.Mathlib.Omega.{arith}
 use mathlib.Core.Path.{◌≡◌, refl, subst}
@@ -6,13 +7,10 @@ use mathlib.Core.Bool.{Bool, true, false, cond, ◌&&◌}
 use mathlib.Core.List.{List}
 use lib.ListN.{length, take, drop, length-drop}
 use lib.Dec.{eqb}
+use Rattle.marker.specs.declared.line.Fragment.{Fragment}
 use Rattle.text.specs.Pattern.{bytes, starts_with, equals, find, contains}
 use Rattle.text.specs.Space.{trim}
-use Rattle.text.specs.declared.pattern.Found.{Found}
-use Rattle.text.specs.declared.pattern.Found.TheVariants.{At, Nothing}
 use Rattle.text.proofs.PatternLaws.{find-within, contains_nothing}
-use Rattle.marker.specs.declared.line.Fragment.{Fragment}
-use Rattle.marker.specs.declared.line.Fragment.TheVariants.{Path, Other}
 use Rattle.marker.specs.declared.line.Kind.{Kind}
 use Rattle.fence.specs.Fences.{is_fence}
 use Rattle.marker.specs.declared.line.Kind.TheVariants.{Plain, Fence, Fault, Closes, Opens, Spans}
@@ -41,21 +39,21 @@ ends-text o j b = go (find CLOSE b) refl
     by k false true h = tt
     by k false false h = omega arith
 
-    go : (f : Found) → find CLOSE b ≡ f → Ends o (o + j + 4 + length b) (text_of o j b f)
-    go (At k) e = by k (contains OPEN (take k b)) (eqb j 0) (find-within CLOSE b k e)
-    go Nothing e = tt
+    go : (f : Option ℕ) → find CLOSE b ≡ f → Ends o (o + j + 4 + length b) (text_of o j b f)
+    go (Some k) e = by k (contains OPEN (take k b)) (eqb j 0) (find-within CLOSE b k e)
+    go None e = tt
 
 ends-mark : (o : ℕ) (b : List ℕ) → Ends o (o + length b) (mark_of o b)
 unfolding mark_of spec_of
 ends-mark o b = by (starts_with (bytes "/") b) (go (find SPEC-END b) refl)
   where
-    go : (f : Found) → find SPEC-END b ≡ f → Ends o (o + length b) (spec_of o b f)
-    go (At j) e =
+    go : (f : Option ℕ) → find SPEC-END b ≡ f → Ends o (o + length b) (spec_of o b f)
+    go (Some j) e =
         let r : List ℕ = drop (j + 4) b in
         weaken o o (o + j + 4 + length r) (o + length b) (text_of o j r (find CLOSE r)) (omega arith)
         (omega (arith, length-drop (j + 4) b, find-within SPEC-END b j e))
         (ends-text o j r)
-    go Nothing e = tt
+    go None e = tt
 
     by : (x : Bool) → Ends o (o + length b) (spec_of o b (find SPEC-END b)) → Ends o (o + length b) (cond x (Problem 6) (spec_of o b (find SPEC-END b)))
     by true h = tt
@@ -65,13 +63,13 @@ ends_next : (o : ℕ) (r : List ℕ) → Ends o (o + length r) (next_mark o r)
 unfolding next_mark first_of
 ends_next o r = go (find OPEN r) refl
   where
-    go : (f : Found) → find OPEN r ≡ f → Ends o (o + length r) (first_of o r f)
-    go (At i) e =
+    go : (f : Option ℕ) → find OPEN r ≡ f → Ends o (o + length r) (first_of o r f)
+    go (Some i) e =
         let b : List ℕ = drop (i + 5) r in
         weaken (o + i + 5) o (o + i + 5 + length b) (o + length r) (mark_of (o + i + 5) b) (omega arith)
         (omega (arith, length-drop (i + 5) r, find-within OPEN r i e))
         (ends-mark (o + i + 5) b)
-    go Nothing e = tt
+    go None e = tt
 
 -- a span that is read ends within the line, past where the reading began
 pub mark-within : (o : ℕ) (r : List ℕ) (a e c d : ℕ) → next_mark o r ≡ Marked a e c d → (o < d) × (d + 10 ≤ o + length r)
@@ -86,11 +84,11 @@ Fits fence inside l Closes = (fence ≡ false) × (inside ≡ true)
 Fits fence inside l (Opens a e peer) = Unit {0}
 Fits fence inside l (Spans i) = i ≤ length l
 
-fits_fragment : (fence inside : Bool) (i : ℕ) (l : List ℕ) (f : Fragment) → i ≤ length l → Fits fence inside l (fragment_kind inside i l f)
+fits_fragment : (fence inside : Bool) (i : ℕ) (l : List ℕ) (f : Option Fragment) → i ≤ length l → Fits fence inside l (fragment_kind inside i l f)
 unfolding fragment_kind
-fits_fragment fence true i l (Path a e peer) h = tt
-fits_fragment fence false i l (Path a e peer) h = tt
-fits_fragment fence inside i l Other h = by (contains OPEN-FRAGMENT l)
+fits_fragment fence true i l (Some p) h = tt
+fits_fragment fence false i l (Some p) h = tt
+fits_fragment fence inside i l None h = by (contains OPEN-FRAGMENT l)
   where
     by : (x : Bool) → Fits fence inside l (cond x (Fault 3) (Spans i))
     by true = tt
@@ -106,10 +104,10 @@ fits-kind fence inside o l = by (is_fence l) (go (find OPEN l) refl)
     marked false true false k h = h
     marked false false c k h = h
 
-    go : (f : Found) → find OPEN l ≡ f → Fits fence inside l (marked_kind fence inside o l f)
-    go (At i) e = marked fence inside (equals CLOSE (trim l)) (fragment_kind inside i l (fragment_of o l))
+    go : (f : Option ℕ) → find OPEN l ≡ f → Fits fence inside l (marked_kind fence inside o l f)
+    go (Some i) e = marked fence inside (equals CLOSE (trim l)) (fragment_kind inside i l (fragment_of o l))
         (fits_fragment fence inside i l (fragment_of o l) (omega (arith, find-within OPEN l i e)))
-    go Nothing e = tt
+    go None e = tt
 
     by : (x : Bool) → Fits fence inside l (marked_kind fence inside o l (find OPEN l))
         → Fits fence inside l (cond x Fence (marked_kind fence inside o l (find OPEN l)))

@@ -1,9 +1,8 @@
 // What a line is to the marker scan.
-ghost use Rattle.std.specs.Prelude.{◌≡◌, ◌+◌, ◌<◌, ◌^◌, length};
+ghost use Rattle.std.specs.Prelude.{◌≡◌, ◌+◌, ◌<◌, ◌^◌, length, Some};
 ghost use Rattle.text.specs.Pattern.{find as find_in};
 ghost use Rattle.marker.specs.Marker.{path_of, alone_of, fragment_kind, marked_kind, kind_of, OPEN};
 
-use text::pattern::Found;
 use text::{pattern, space};
 
 // The length of `<!--[fragment:`.
@@ -17,13 +16,10 @@ const PEER: usize = 5;
 
 // A line that is alone a fragment marker: where its path stands, and whether it is a peer. Or another line.
 #[derive(Clone, Copy)]
-pub enum Fragment {
-    Path {
-        start: usize,
-        end: usize,
-        peer: bool,
-    },
-    Other,
+pub struct Fragment {
+    pub start: usize,
+    pub end: usize,
+    pub peer: bool,
 }
 
 #[derive(Clone, Copy)]
@@ -47,37 +43,37 @@ pub enum Kind {
 }
 
 // A path p at place o.
-fn path_at(p: &[u8], o: usize, peer: bool) -> Fragment
+fn path_at(p: &[u8], o: usize, peer: bool) -> Option<Fragment>
     requires { o + length p.now < 2 ^ 64 }
     ensures { result ≡ path_of o peer p.now }
 {
     if p.len() == 0 {
-        return Fragment::Other;
+        return None;
     }
     if pattern::contains(p, b"]-->") {
-        return Fragment::Other;
+        return None;
     }
     if pattern::contains(p, b":") {
-        return Fragment::Other;
+        return None;
     }
-    Fragment::Path {
+    Some(Fragment {
         start: o,
         end: o + p.len(),
         peer,
-    }
+    })
 }
 
 // The path that a trimmed line at place o names, and its placement, where the whole line is a fragment marker.
-fn fragment_spec(line: &[u8], o: usize) -> Fragment
+fn fragment_spec(line: &[u8], o: usize) -> Option<Fragment>
     requires { o + length line.now < 2 ^ 64 }
     ensures { result ≡ alone_of o line.now }
 {
     if !pattern::starts_with(line, b"<!--[fragment:") {
-        return Fragment::Other;
+        return None;
     }
     let rest = &line[OPEN_FRAGMENT..];
     if !pattern::ends_with(rest, b"]-->") {
-        return Fragment::Other;
+        return None;
     }
     let end = rest.len() - SPEC_END;
     let spec = &rest[..end];
@@ -90,17 +86,17 @@ fn fragment_spec(line: &[u8], o: usize) -> Fragment
 
 // What a line is whose first marker stands at place i of it, outside a fence, where it closes no region.
 fn fragment_kind(fragment: Fragment, line: &[u8], i: usize, inside: bool) -> Kind
-    requires { find_in OPEN line.now ≡ Found.At i }
+    requires { find_in OPEN line.now ≡ Some i }
     ensures { result ≡ fragment_kind inside i line.now fragment }
 {
     match fragment {
-        Fragment::Path { start, end, peer } => {
+        Some(Fragment { start, end, peer }) => {
             if inside {
                 return Kind::Fault(2);
             }
             Kind::Opens { start, end, peer }
         }
-        Fragment::Other => {
+        None => {
             if pattern::contains(&line[i..], b"<!--[fragment:") {
                 return Kind::Fault(3);
             }
@@ -111,7 +107,7 @@ fn fragment_kind(fragment: Fragment, line: &[u8], i: usize, inside: bool) -> Kin
 
 // What a line at place o is whose first marker stands at place i of it.
 fn marked_kind(line: &[u8], i: usize, o: usize, fence: bool, inside: bool) -> Kind
-    requires { (o + length line.now < 2 ^ 64) × (find_in OPEN line.now ≡ Found.At i) }
+    requires { (o + length line.now < 2 ^ 64) × (find_in OPEN line.now ≡ Some i) }
     ensures { result ≡ marked_kind fence inside o line.now (find_in OPEN line.now) }
 {
     if fence {
@@ -136,7 +132,7 @@ pub fn kind_of(line: &[u8], o: usize, fence: bool, inside: bool) -> Kind
     }
     let f = pattern::find(line, b"<!--[");
     match f {
-        Found::At(i) => marked_kind(line, i, o, fence, inside),
-        Found::Nothing => Kind::Plain,
+        Some(i) => marked_kind(line, i, o, fence, inside),
+        None => Kind::Plain,
     }
 }

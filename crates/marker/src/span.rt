@@ -4,7 +4,6 @@ ghost use Rattle.text.specs.Pattern.{find as find_in};
 ghost use Rattle.marker.specs.Marker.{text_of, mark_of, next_mark, CLOSE};
 
 use text::pattern;
-use text::pattern::Found;
 
 // What is read at a marker: where a span's spec and text stand, or the number of a problem.
 #[derive(Clone, Copy)]
@@ -34,7 +33,7 @@ fn text_mark(b: &[u8], o: usize, j: usize) -> Mark
 {
     let f = pattern::find(b, b"<!--[/]-->");
     match f {
-        Found::At(k) => {
+        Some(k) => {
             let nested = pattern::contains(&b[..k], b"<!--[");
             let empty = j == 0;
             if nested {
@@ -50,7 +49,7 @@ fn text_mark(b: &[u8], o: usize, j: usize) -> Mark
                 text_end: o + j + 4 + k,
             }
         }
-        Found::Nothing => Mark::Problem(8),
+        None => Mark::Problem(8),
     }
 }
 
@@ -64,11 +63,11 @@ fn read_mark(b: &[u8], o: usize) -> Mark
     }
     let f = pattern::find(b, b"]-->");
     match f {
-        Found::At(j) => {
+        Some(j) => {
             let a = j + 4;
             text_mark(&b[a..], o, j)
         }
-        Found::Nothing => Mark::Problem(7),
+        None => Mark::Problem(7),
     }
 }
 
@@ -79,10 +78,10 @@ pub fn next_mark(r: &[u8], o: usize) -> Mark
 {
     let f = pattern::find(r, b"<!--[");
     match f {
-        Found::At(i) => {
+        Some(i) => {
             let a = i + 5;
             read_mark(&r[a..], o + i + 5)
         }
-        Found::Nothing => Mark::End,
+        None => Mark::End,
     }
 }

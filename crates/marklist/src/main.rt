@@ -36,8 +36,8 @@ fn main(rt: HostRuntime) -> io::Result<()> {
     let a = listing::scan(&input[..n], &mut out);
     let mut to = io::writer(&rt);
     match a {
-        Answer::Accepted { length, files: _ } => to.write_all(&out[..length]),
-        Answer::NoRegion => Ok(()),
-        Answer::Refused(_) => print_refusal(&mut to, answer::numbers(a)),
+        Ok(Answer::Accepted { length, files: _ }) => to.write_all(&out[..length]),
+        Ok(Answer::NoRegion) => Ok(()),
+        Err(_) => print_refusal(&mut to, answer::numbers(a)),
     }
 }

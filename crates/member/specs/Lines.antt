@@ -1,5 +1,7 @@
 -- The lines that a member keeps, one after the other. Nothing here is document 01's: functions promise it.
-use Rattle.std.specs.Prelude.{ℕ, suc, ◌+◌, ◌≤◌, ◌≡◌, false, cond, List, [], ◌∷◌, ◌++◌, leb, length, take, drop}
+use Rattle.std.specs.Prelude.{ℕ, suc, ◌+◌, ◌≤◌, ◌≡◌, false, cond, List, [], ◌∷◌, ◌++◌, leb, length, take, drop, Option, Some, None}
+use Rattle.member.specs.declared.lines.KeptHeading.{KeptHeading}
+use Rattle.member.specs.declared.lines.KeptLine.{KeptLine}
 use Rattle.text.specs.Bytes.{part}
 use Rattle.text.specs.Lines.{pieces}
 use Rattle.heading.specs.Walk.{step_kind, step_after, walk_begin}
@@ -8,10 +10,6 @@ use Rattle.heading.specs.declared.walk.LineKind.TheVariants.{Quoted, Heading, Ot
 use Rattle.shift.specs.Shift.{Told, told_from}
 use Rattle.member.specs.Member.{without_contents}
 use Rattle.member.specs.declared.lines.LineCursor.{LineCursor}
-use Rattle.member.specs.declared.lines.NextLine.{NextLine}
-use Rattle.member.specs.declared.lines.NextLine.TheVariants.{Line, NoLine}
-use Rattle.member.specs.declared.lines.NextHeading.{NextHeading}
-use Rattle.member.specs.declared.lines.NextHeading.TheVariants.{Next, NoMore}
 
 -- the lines of a text without hand-written contents, with what each is
 abbrev pub kept_lines : List ℕ → List Told
@@ -43,9 +41,9 @@ pub record IsLine (s : List ℕ) (c : LineCursor) (a e : ℕ) (k : LineKind) (d 
   pub left : left_of c s ≡ record { kind = k; bytes = part a e s } ∷ left_of d s
   pub up_to : (n : ℕ) → e ≤ n → n ≤ length s → left_of c (take n s) ≡ record { kind = k; bytes = part a e s } ∷ left_of d (take n s)
 
-abbrev pub FoundLine : List ℕ → LineCursor → NextLine → Type 0
-FoundLine s c (Line a e k d) = IsLine s c a e k d
-FoundLine s c NoLine = left_of c s ≡ []
+abbrev pub FoundLine : List ℕ → LineCursor → Option KeptLine → Type 0
+FoundLine s c (Some p) = IsLine s c p.start p.end p.kind p.behind
+FoundLine s c None = left_of c s ≡ []
 
 -- none of the lines is a heading
 abbrev pub IsPlain : LineKind → Type 0
@@ -73,6 +71,6 @@ pub record IsHeading (s : List ℕ) (c : LineCursor) (n p q : ℕ) (d : LineCurs
   pub next : CursorIn d s
   pub later : suc c.at ≤ d.at
 
-abbrev pub FoundHeading : List ℕ → LineCursor → NextHeading → Type 0
-FoundHeading s c (Next n p q d) = IsHeading s c n p q d
-FoundHeading s c NoMore = Plain (left_of c s)
+abbrev pub FoundHeading : List ℕ → LineCursor → Option KeptHeading → Type 0
+FoundHeading s c (Some l) = IsHeading s c l.level l.start l.end l.behind
+FoundHeading s c None = Plain (left_of c s)

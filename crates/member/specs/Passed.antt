@@ -1,5 +1,5 @@
 -- Lines that their first byte tells to be no headings and to leave the walk's state, passed over one after the other. Nothing here is document 01's: functions promise it.
-use Rattle.std.specs.Prelude.{ℕ, zero, suc, ◌+◌, ◌≤◌, ◌≡◌, Bool, true, false, cond, List, length, drop}
+use Rattle.std.specs.Prelude.{ℕ, zero, suc, ◌+◌, ◌≤◌, ◌≡◌, Bool, true, false, cond, List, length, drop, Option, Some, None}
 use Rattle.text.specs.Bytes.{part, is, first}
 use Rattle.text.specs.First.{begins}
 use Rattle.text.specs.Lines.{LF}
@@ -9,8 +9,6 @@ use Rattle.link.specs.Links.{relink}
 use Rattle.member.specs.Lines.{IsLine}
 use Rattle.member.specs.declared.lines.LineCursor.{LineCursor}
 use Rattle.member.specs.declared.lines.Passed.{Passed}
-use Rattle.member.specs.declared.lines.Still.{Still}
-use Rattle.member.specs.declared.lines.Still.TheVariants.{To, Unsure}
 
 -- no link stands in a line
 abbrev pub Unlinked : List ℕ → Type 0
@@ -23,9 +21,9 @@ pub record IsStill (s : List ℕ) (a : ℕ) (unlinked : Bool) (e : ℕ) : Type 0
   pub still : begins (part a e s) ≡ false
   pub plain : unlinked ≡ true → Unlinked (part a e s)
 
-abbrev pub FoundStill : List ℕ → ℕ → Bool → Still → Type 0
-FoundStill s a unlinked (To e) = IsStill s a unlinked e
-FoundStill s a unlinked Unsure = Unit {0}
+abbrev pub FoundStill : List ℕ → ℕ → Bool → Option ℕ → Type 0
+FoundStill s a unlinked (Some e) = IsStill s a unlinked e
+FoundStill s a unlinked None = Unit {0}
 
 -- such a line stands between two cursors; lines that are not blank end at m before it, and at n with it
 pub record PassedLine (s : List ℕ) (unlinked : Bool) (c : LineCursor) (m : ℕ) (d : LineCursor) (n : ℕ) : Type 0 where

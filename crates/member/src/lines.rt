@@ -17,26 +17,20 @@ pub struct LineCursor {
 
 // A line by its ends, with what it is and the cursor behind it, or that none is left.
 #[derive(Clone, Copy)]
-pub enum NextLine {
-    Line {
-        start: usize,
-        end: usize,
-        kind: LineKind,
-        behind: LineCursor,
-    },
-    NoLine,
+pub struct KeptLine {
+    pub start: usize,
+    pub end: usize,
+    pub kind: LineKind,
+    pub behind: LineCursor,
 }
 
 // A heading: its level, where its text starts and ends, and the cursor behind its line.
 #[derive(Clone, Copy)]
-pub enum NextHeading {
-    Next {
-        level: usize,
-        start: usize,
-        end: usize,
-        behind: LineCursor,
-    },
-    NoMore,
+pub struct KeptHeading {
+    pub level: usize,
+    pub start: usize,
+    pub end: usize,
+    pub behind: LineCursor,
 }
 
 // Lines passed over: the cursor behind them, and where the last of them that is not empty ends.
@@ -67,32 +61,25 @@ fn last_end(old: usize, at: usize, end: usize) -> usize
     old
 }
 
-// A line that is no heading and leaves the walk's state, by where it ends; or one that may be more.
-#[derive(Clone, Copy)]
-enum Still {
-    To(usize),
-    Unsure,
-}
-
 // The line that starts at a place, by its first byte. In an unlinked one no `]` stands.
-fn still_line(s: &[u8], at: usize, unlinked: bool) -> Still
+fn still_line(s: &[u8], at: usize, unlinked: bool) -> Option<usize>
     requires { at < length s.now }
     ensures { FoundStill s.now at unlinked result }
 {
     let b = s[at];
     if b == b'\n' {
-        return Still::To(at);
+        return Some(at);
     }
     if heading::walk::may_begin(b) {
-        return Still::Unsure;
+        return None;
     }
     let e = bytes::find_byte(s, at, b'\n');
     if unlinked {
         if bytes::has(&s[at..e], b']') {
-            return Still::Unsure;
+            return None;
         }
     }
-    Still::To(e)
+    Some(e)
 }
 
 // Passes over such lines from a cursor on, where lines that are not blank ended at a place before.
@@ -108,7 +95,7 @@ pub fn pass(s: &[u8], from: LineCursor, end: usize, unlinked: bool) -> Passed
         return Passed { behind: from, end };
     }
     while at < s.len() {
-        let Still::To(e) = still_line(s, at, unlinked) else {
+        let Some(e) = still_line(s, at, unlinked) else {
             return Passed {
                 behind: LineCursor { at, line, state },
                 end: last,
@@ -125,7 +112,7 @@ pub fn pass(s: &[u8], from: LineCursor, end: usize, unlinked: bool) -> Passed
 }
 
 // The next line kept from a cursor on.
-pub fn next_line(s: &[u8], from: LineCursor) -> NextLine
+pub fn next_line(s: &[u8], from: LineCursor) -> Option<KeptLine>
     requires { CursorIn from s.now }
     ensures { FoundLine s.now from result }
 {
@@ -146,42 +133,44 @@ pub fn next_line(s: &[u8], from: LineCursor) -> NextLine
                 line,
                 state: after,
             };
-            return NextLine::Line {
+            return Some(KeptLine {
                 start: a,
                 end: e,
                 kind,
                 behind,
-            };
+            });
         }
         a = e + 1;
     }
-    NextLine::NoLine
+    None
 }
 
 // The next heading from a cursor on.
-pub fn next_heading(s: &[u8], from: LineCursor) -> NextHeading
+pub fn next_heading(s: &[u8], from: LineCursor) -> Option<KeptHeading>
     requires { CursorIn from s.now }
     ensures { FoundHeading s.now from result }
 {
     let mut c = from;
     loop {
         let passed = pass(s, c, 0, false);
-        let NextLine::Line {
-            start: a,
-            end: _,
-            kind,
-            behind,
-        } = next_line(s, passed.behind)
+        let Some(
+            KeptLine {
+                start: a,
+                end: _,
+                kind,
+                behind,
+            },
+        ) = next_line(s, passed.behind)
         else {
-            return NextHeading::NoMore;
+            return None;
         };
         if let LineKind::Heading { level, start, end } = kind {
-            return NextHeading::Next {
+            return Some(KeptHeading {
                 level,
                 start: a + start,
                 end: a + end,
                 behind,
-            };
+            });
         }
         c = behind;
     }

@@ -1,4 +1,5 @@
 -- Laws of `specs/Members.antt`: numbers to members and back, members in order, and members whose buffers change. Assumes nothing.
+use Rattle.std.specs.Prelude.{Option, Some, None}
 use Prim.Native.Nat.{ℕ, zero, suc, ◌+◌, ◌*◌, ◌-◌, ◌≤◌, ◌<◌}
 use native.Mathlib.Nat.{add-zero, sub-zero, add-suc, not-suc-le-zero}
 use native.Mathlib.Numerals.{add-one, add-two, add-three, add-four, add_five, add_six, add_seven, add_eight}
@@ -15,8 +16,6 @@ use mir.Val.{bool_byte}
 use Rattle.text.specs.Bytes.{part, bit}
 use Rattle.buffer.proofs.BufferLaws.{drop_sets, get_d_past}
 use Rattle.heading.specs.Level.{IsLevel}
-use Rattle.heading.specs.declared.level.TopLevel.{TopLevel}
-use Rattle.heading.specs.declared.level.TopLevel.TheVariants.{Level, NoHeading}
 use Rattle.text.proofs.BytesLaws.{part_length, drop_take}
 use Rattle.answer.specs.declared.Refusal.TheVariants.{NoTitle}
 use Rattle.index.specs.Index.{File, file_of}
@@ -53,7 +52,7 @@ pub add_ten : (n : ℕ) → n + 10 ≡ suc (suc (suc (suc (suc (suc (suc (suc (s
 add_ten n = add-suc n 9 ∙ ap suc (add_nine n)
 
 -- a level that is not 0
-pub level_of : (n : ℕ) → (n ≡ 0 → ⊥) → Level n ≡ top_of n
+pub level_of : (n : ℕ) → (n ≡ 0 → ⊥) → Some n ≡ top_of n
 level_of zero h = absurd (h refl)
 level_of (suc n) h = refl
 
@@ -73,10 +72,10 @@ bit_of : (b : Bool) → eqb (bit b) 1 ≡ b
 bit_of true = refl
 bit_of false = refl
 
-top-number : (t : TopLevel) → IsLevel t → top_of (top_number t) ≡ t
-top-number (Level zero) h = absurd (not-suc-le-zero h.0)
-top-number (Level (suc n)) h = refl
-top-number NoHeading h = refl
+top-number : (t : Option ℕ) → IsLevel t → top_of (top_number t) ≡ t
+top-number (Some zero) h = absurd (not-suc-le-zero h.0)
+top-number (Some (suc n)) h = refl
+top-number None h = refl
 
 -- eleven numbers that are written one after the other
 pub puts : (l : List ℕ) (i a b c d e f g h j k t : ℕ) → set (set (set (set (set (set (set (set (set (set (set l i a) (i + 1) b) (i + 2) c) (i + 3) d) (i + 4) e) (i + 5) f) (i + 6) g) (i + 7) h) (i + 8) j) (i + 9) k) (i + 10) t ≡ sets l i (a ∷ b ∷ c ∷ d ∷ e ∷ f ∷ g ∷ h ∷ j ∷ k ∷ t ∷ [])

@@ -1,8 +1,6 @@
 -- The members of an assembly, by what is known of each. Nothing here is document 01's: functions promise it, and the laws of `proofs/` tie it to the members.
-use Rattle.std.specs.Prelude.{ℕ, zero, suc, ◌+◌, ◌*◌, ◌-◌, ◌≤◌, ◌<◌, ◌≡◌, List, [], ◌∷◌, eqb, length, get_or}
+use Rattle.std.specs.Prelude.{ℕ, zero, suc, ◌+◌, ◌*◌, ◌-◌, ◌≤◌, ◌<◌, ◌≡◌, List, [], ◌∷◌, eqb, length, get_or, Option, Some, None}
 use Rattle.text.specs.Bytes.{part, bit}
-use Rattle.heading.specs.declared.level.TopLevel.{TopLevel}
-use Rattle.heading.specs.declared.level.TopLevel.TheVariants.{Level, NoHeading}
 use Rattle.index.specs.Index.{File, file_of}
 use Rattle.put.specs.Put.{source_text, Inside, part_of}
 use Rattle.put.specs.declared.Source.{Source}
@@ -12,13 +10,13 @@ use Rattle.outline.specs.Outline.{IsOutline}
 use Rattle.members.specs.declared.Member.{Member}
 
 -- a level as a number, 0 for none
-abbrev pub top_number : TopLevel → ℕ
-top_number (Level n) = n
-top_number NoHeading = 0
+abbrev pub top_number : Option ℕ → ℕ
+top_number (Some n) = n
+top_number None = 0
 
-abbrev pub top_of : ℕ → TopLevel
-top_of zero = NoHeading
-top_of (suc n) = Level (suc n)
+abbrev pub top_of : ℕ → Option ℕ
+top_of zero = None
+top_of (suc n) = Some (suc n)
 
 -- what the numbers say of member i, counted from 0
 abbrev pub member_at : List ℕ → ℕ → Member

@@ -6,38 +6,38 @@ ghost use Rattle.std.proofs.lemmas.List.Edits.{sets};
 ghost use Rattle.put.specs.Put.{part_of};
 ghost use Rattle.members.specs.Members.{top_number, top_of as top_in, member_at, numbers_of, text_source, title_source};
 
-use heading::level::TopLevel;
-use outline::{Extent, Outline};
+use outline::Outline;
 use put::Source;
 use shift::level::Levels;
+use text::part::Part;
 
 // Where its name stands in the index, its file's number for places, where its text lies, and once it is prepared its outline.
 #[derive(Clone, Copy)]
 pub struct Member {
-    pub name: Extent,
+    pub name: Part,
     pub file: usize,
     pub source: Source,
     pub outline: Outline,
 }
 
 // A level, or 0.
-fn number_of(top: TopLevel) -> usize
+fn number_of(top: Option<usize>) -> usize
     ensures { result ≡ top_number top }
 {
     match top {
-        TopLevel::Level(n) => n,
-        TopLevel::NoHeading => 0,
+        Some(n) => n,
+        None => 0,
     }
 }
 
 // The level that such a number stands for.
-fn top_of(n: usize) -> TopLevel
+fn top_of(n: usize) -> Option<usize>
     ensures { result ≡ top_in n }
 {
     if n == 0 {
-        return TopLevel::NoHeading;
+        return None;
     }
-    TopLevel::Level(n)
+    Some(n)
 }
 
 // What is known of a member, counted from 0.
@@ -51,7 +51,7 @@ pub fn member_at(set: &[usize; 704], i: usize) -> Member
         deepest: set[at + 10],
     };
     Member {
-        name: Extent {
+        name: Part {
             start: set[at],
             end: set[at + 1],
         },
@@ -63,7 +63,7 @@ pub fn member_at(set: &[usize; 704], i: usize) -> Member
         },
         outline: Outline {
             end: set[at + 6],
-            title: Extent {
+            title: Part {
                 start: set[at + 7],
                 end: set[at + 8],
             },

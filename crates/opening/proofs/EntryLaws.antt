@@ -1,4 +1,5 @@
 -- What a region comes to before its file, test by test, and what stands behind an entry. Assumes nothing.
+use Rattle.std.specs.Prelude.{Result, Ok, Err}
 use Prim.Native.Nat.{ℕ, ◌<◌}
 use native.Mathlib.Omega.{arith}
 use mathlib.Core.Path.{◌≡◌, refl}
@@ -11,13 +12,11 @@ use Rattle.answer.specs.declared.Place.{Place}
 use Rattle.answer.specs.declared.Refusal.{Refusal}
 use Rattle.answer.specs.declared.Refusal.TheVariants.{PeerWithoutHeading, Allowance, TextLimit}
 use Rattle.insertion.specs.Insertion.{joined, stopped, tested}
-use Rattle.opening.specs.declared.Named.{Named}
-use Rattle.opening.specs.declared.Named.TheVariants.{File as Names, Refused as Unnamed}
 use Rattle.chains.specs.Chains.{Next, stop, on}
 use Rattle.opening.specs.Opening.{named_of, enters, barred, entered, joined_entry, entry_of}
 
 -- an entry, test by test
-module _ (L : ℕ) (p : Place) (headless : Bool) (t : List ℕ) (r : Named) where
+module _ (L : ℕ) (p : Place) (headless : Bool) (t : List ℕ) (r : Result ℕ Refusal) where
   pub entry_over : {x : Refusal} → stopped x ≡ tested L p t → barred x ≡ entry_of L p headless t r
   unfolding entry_of
   entry_over e = rw (← e)
@@ -45,7 +44,7 @@ entry_enters B L n p headless t u y d e = at_size (leb (length t) L) headless y 
     at_next (stop x) e = let z : ◌≡◌ {A = ℕ} 0 1 = cc in absurd (omega arith)
     at_next (on k) e = at_test (ltb n B) refl e
       where
-        at_test : (b : Bool) → ltb n B ≡ b → entered t (cond b (Names k) (Unnamed (Allowance p))) ≡ enters u d → Enters B n t u (on k) d
+        at_test : (b : Bool) → ltb n B ≡ b → entered t (cond b (Ok k) (Err (Allowance p))) ≡ enters u d → Enters B n t u (on k) d
         at_test true q h = let i : k ≡ d = cc in record { same = cc; leads = rw i; allowed = ltb-true n B q }
         at_test false q h = let z : ◌≡◌ {A = ℕ} 0 1 = cc in absurd (omega arith)
 

@@ -1,4 +1,5 @@
 -- The files that rows tell of, one by one, and the file that a name leads to. Assumes nothing.
+use Rattle.std.specs.Prelude.{Some, None, Result, Ok, Err}
 use Prim.Native.Nat.{ℕ, zero, suc, ◌+◌, ◌≤◌, ◌<◌}
 use native.Mathlib.Nat.{add-zero}
 use native.Mathlib.Omega.{arith}
@@ -11,15 +12,12 @@ use Rattle.text.specs.Bytes.{part}
 use Rattle.text.specs.Pattern.{equals}
 use Rattle.answer.specs.declared.Place.{Place}
 use Rattle.answer.specs.declared.Refusal.TheVariants.{OnChain, Absent, Allowance}
-use Rattle.text.specs.declared.pattern.Found.TheVariants.{At, Nothing}
 use Rattle.index.specs.Index.{file_of, file_text, files_from, find_record}
 use Rattle.index.specs.Rows.{row_at, record_of, records_in}
 use Rattle.index.specs.declared.rows.Row.{Row}
 use Rattle.index.proofs.RowsLaws.{files-length, records-length, row-forward, row_within, row_fits}
 use Rattle.chains.specs.Chains.{file_at, next_named}
 use Rattle.opening.specs.Opening.{files_in, Ready, named_of, Lies}
-use Rattle.opening.specs.declared.Named.{Named}
-use Rattle.opening.specs.declared.Named.TheVariants.{File as Names, Refused as Unnamed}
 use Rattle.chains.proofs.GrowLaws.{find-files, find-within}
 
 module _ (index rows contents : List ℕ) where
@@ -48,29 +46,29 @@ module _ (index rows contents : List ℕ) where
   row-file n d e h = rw e (set-file n d h)
 
   -- the row of a name
-  pub find-row : (name : List ℕ) (n d : ℕ) → At d ≡ find_record name (records_in index rows 0 n) → d < n
+  pub find-row : (name : List ℕ) (n d : ℕ) → Some d ≡ find_record name (records_in index rows 0 n) → d < n
   find-row name n d e = omega (arith, find-within name (files_in index rows contents n) d (find-files name 1 contents (records_in index rows 0 n) ∙ sym e), set_length n)
 
   -- where a name leads: 13, 14, 15, or a file
   module _ (B used n : ℕ) (top : List ℕ) (m : List Bool) (p : Place) (name : List ℕ) where
-    abbrev leading : Named
+    abbrev leading : Result ℕ Refusal
     leading = named_of B used p (next_named (files_in index rows contents n) top m p name)
 
-    pub named-top : equals top name ≡ true → Unnamed (OnChain p) ≡ leading
+    pub named-top : equals top name ≡ true → Err (OnChain p) ≡ leading
     named-top e = rw e
 
     module _ (off : equals top name ≡ false) where
-      pub named-absent : Nothing ≡ find_record name (records_in index rows 0 n) → Unnamed (Absent p) ≡ leading
+      pub named-absent : None ≡ find_record name (records_in index rows 0 n) → Err (Absent p) ≡ leading
       named-absent e = rw (off, find-files name 1 contents (records_in index rows 0 n), ← e)
 
-      module _ (d : ℕ) (e : At d ≡ find_record name (records_in index rows 0 n)) where
-        pub named_marked : get_or m d false ≡ true → Unnamed (OnChain p) ≡ leading
+      module _ (d : ℕ) (e : Some d ≡ find_record name (records_in index rows 0 n)) where
+        pub named_marked : get_or m d false ≡ true → Err (OnChain p) ≡ leading
         named_marked h = rw (off, find-files name 1 contents (records_in index rows 0 n), ← e, h)
 
-        pub named_spent : get_or m d false ≡ false → B ≤ used → Unnamed (Allowance p) ≡ leading
+        pub named_spent : get_or m d false ≡ false → B ≤ used → Err (Allowance p) ≡ leading
         named_spent h k = rw (off, find-files name 1 contents (records_in index rows 0 n), ← e, h, le-ltb used B k)
 
-        pub named-given : get_or m d false ≡ false → used < B → Names d ≡ leading
+        pub named-given : get_or m d false ≡ false → used < B → Ok d ≡ leading
         named-given h k = rw (off, find-files name 1 contents (records_in index rows 0 n), ← e, h, lt-ltb used B k)
 
 pub row_lies : {index rows : List ℕ} {room n : ℕ} {r : Row} (d : ℕ) → Ready index rows room n → r ≡ row_at rows d → d < n → Lies (length index) room r

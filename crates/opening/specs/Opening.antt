@@ -1,5 +1,6 @@
 -- What stands before a region's file, for the functions. Nothing here is document 01's: inner functions promise it, and the laws of `filling` tie it to the walk.
-use Rattle.std.specs.Prelude.{ℕ, ◌+◌, ◌≤◌, Bool, cond, List, ltb, take}
+use Rattle.std.specs.Prelude.{ℕ, ◌+◌, ◌≤◌, Bool, cond, List, ltb, take, Result, Ok, Err}
+use Rattle.opening.specs.declared.Opened.{Opened}
 use Rattle.answer.specs.declared.Place.{Place}
 use Rattle.answer.specs.declared.Refusal.{Refusal}
 use Rattle.answer.specs.declared.Refusal.TheVariants.{PeerWithoutHeading, Allowance}
@@ -8,10 +9,6 @@ use Rattle.index.specs.Rows.{records_in, AreNamed, AreWithin}
 use Rattle.regions.specs.declared.host.Opening.{Opening}
 use Rattle.index.specs.declared.rows.Row.{Row}
 use Rattle.insertion.specs.Insertion.{Joined, joined, stopped, tested}
-use Rattle.opening.specs.declared.Named.{Named}
-use Rattle.opening.specs.declared.Named.TheVariants.{File as Names, Refused as Unnamed}
-use Rattle.opening.specs.declared.Opened.{Opened}
-use Rattle.opening.specs.declared.Opened.TheVariants.{Onto, Refused as Barred}
 use Rattle.chains.specs.Chains.{Next, stop, on}
 
 -- the file set that n rows tell of
@@ -31,33 +28,33 @@ pub record Lies (k room : ℕ) (r : Row) : Type 0 where
   pub fits : r.start + r.size ≤ room
 
 -- 13, 14, then 15, where n files are taken in before
-abbrev pub named_of : ℕ → ℕ → Place → Next → Named
-named_of B n p (stop x) = Unnamed x
-named_of B n p (on d) = cond (ltb n B) (Names d) (Unnamed (Allowance p))
+abbrev pub named_of : ℕ → ℕ → Place → Next → Result ℕ Refusal
+named_of B n p (stop x) = Err x
+named_of B n p (on d) = cond (ltb n B) (Ok d) (Err (Allowance p))
 
 -- what a region comes to before its file is filled: the text through the opener and the file, or a refusal
 pub data Entry : Type 0 where
   enters : List ℕ → ℕ → Entry
   barred : Refusal → Entry
 
-abbrev pub read_opened : Opened → List ℕ → Entry
-read_opened (Onto d n) w = enters (take n w) d
-read_opened (Barred x) w = barred x
+abbrev pub read_opened : Result Opened Refusal → List ℕ → Entry
+read_opened (Ok p) w = enters (take p.length w) p.file
+read_opened (Err x) w = barred x
 
-abbrev pub OpenedWithin : Opened → ℕ → Type 0
-OpenedWithin (Onto d n) limit = n ≤ limit
-OpenedWithin (Barred x) limit = Unit {0}
+abbrev pub OpenedWithin : Result Opened Refusal → ℕ → Type 0
+OpenedWithin (Ok p) limit = p.length ≤ limit
+OpenedWithin (Err x) limit = Unit {0}
 
-abbrev pub entered : List ℕ → Named → Entry
-entered t (Names d) = enters t d
-entered t (Unnamed x) = barred x
+abbrev pub entered : List ℕ → Result ℕ Refusal → Entry
+entered t (Ok d) = enters t d
+entered t (Err x) = barred x
 
 abbrev pub joined_entry : Joined → (List ℕ → Entry) → Entry
 joined_entry (joined t) k = k t
 joined_entry (stopped x) k = barred x
 
 -- 17 for the text t, 12, then 13, 14 and 15
-unfoldable pub entry_of : ℕ → Place → Bool → List ℕ → Named → Entry
+unfoldable pub entry_of : ℕ → Place → Bool → List ℕ → Result ℕ Refusal → Entry
 entry_of L p headless t r = joined_entry (tested L p t) (λ u. cond headless (barred (PeerWithoutHeading p)) (entered u r))
 
 -- ---- what callers have to show

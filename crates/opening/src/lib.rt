@@ -11,10 +11,8 @@ ghost use Rattle.opening.specs.Opening.{files_in, named_of, read_opened, OpenedW
 
 use answer::{Place, Refusal};
 use index::rows;
-use insertion::Inserted;
 use regions::host::Opening;
 use text::pattern;
-use text::pattern::Found;
 
 // The file's number for places, how many records there are, the limit, the allowance, and how many files were taken in before.
 #[derive(Clone, Copy)]
@@ -26,18 +24,11 @@ pub struct Filling {
     pub used: usize,
 }
 
-// The file that a region names, counted from 0, or a refusal.
-#[derive(Clone, Copy)]
-pub enum Named {
-    File(usize),
-    Refused(Refusal),
-}
-
 // The file to take in and how long the text through the opener is, or a refusal.
 #[derive(Clone, Copy)]
-pub enum Opened {
-    Onto { file: usize, length: usize },
-    Refused(Refusal),
+pub struct Opened {
+    pub file: usize,
+    pub length: usize,
 }
 
 // The file that a name leads to: 13, 14, then 15.
@@ -49,38 +40,44 @@ fn named_file(
     name: &[u8],
     opener: Place,
     at: Filling,
-) -> Named
+) -> Result<usize, Refusal>
     requires { (at.count ≤ 64) × AreNamed index.now rows.now at.count }
     ensures { (contents : List ℕ) → result ≡ named_of at.allowance at.used opener
         (next_named (files_in index.now rows.now contents at.count) top.now marks opener name.now) }
 {
     if pattern::equals(name, top) {
-        return Named::Refused(Refusal::OnChain(opener));
+        return Err(Refusal::OnChain(opener));
     }
     match rows::find(index, rows, at.count, name) {
-        Found::At(file) => {
+        Some(file) => {
             if marks[file] {
-                return Named::Refused(Refusal::OnChain(opener));
+                return Err(Refusal::OnChain(opener));
             }
             if at.allowance <= at.used {
-                return Named::Refused(Refusal::Allowance(opener));
+                return Err(Refusal::Allowance(opener));
             }
-            Named::File(file)
+            Ok(file)
         }
-        Found::Nothing => Named::Refused(Refusal::Absent(opener)),
+        None => Err(Refusal::Absent(opener)),
     }
 }
 
 // Puts a block of the host behind the running text; 17 at a place.
-pub fn put_block(block: &[u8], at: Place, limit: usize, len: usize, work: &mut [u8]) -> Inserted
+pub fn put_block(
+    block: &[u8],
+    at: Place,
+    limit: usize,
+    len: usize,
+    work: &mut [u8],
+) -> Result<usize, Refusal>
     requires { (len ≤ limit) × (limit ≤ length work.old) }
     ensures work_after { read_inserted result work.new ≡ tested limit at (take len work.old ++ block.now) }
     ensures within { Within result limit }
 {
     if limit - len < block.len() {
-        return Inserted::Refused(Refusal::TextLimit(at));
+        return Err(Refusal::TextLimit(at));
     }
-    Inserted::To(buffer::copy(block, work, len))
+    Ok(buffer::copy(block, work, len))
 }
 
 // What comes before a region's file: the host's bytes through the opener's line, with 17; 12; the file, with 13, 14 and 15.
@@ -95,7 +92,7 @@ pub fn open_region(
     at: Filling,
     len: usize,
     work: &mut [u8],
-) -> Opened
+) -> Result<Opened, Refusal>
     requires { CanOpen index.now rows.now at.count (length s.now) from o len at.limit (length work.old) }
     ensures by_index { (contents : List ℕ) → read_opened result work.new ≡ entry_of at.limit (place at.number o.line) o.headless (take len work.old ++ part from o.end s.now)
         (named_of at.allowance at.used (place at.number o.line)
@@ -108,18 +105,18 @@ pub fn open_region(
         line: o.line,
     };
     match put_block(&s[from..end], opener, at.limit, len, work) {
-        Inserted::To(length) => {
+        Ok(length) => {
             if o.headless {
-                return Opened::Refused(Refusal::PeerWithoutHeading(opener));
+                return Err(Refusal::PeerWithoutHeading(opener));
             }
             let path = o.path;
             let a = path.start;
             let e = path.end;
             match named_file(index, rows, top, marks, &s[a..e], opener, at) {
-                Named::File(file) => Opened::Onto { file, length },
-                Named::Refused(refusal) => Opened::Refused(refusal),
+                Ok(file) => Ok(Opened { file, length }),
+                Err(refusal) => Err(refusal),
             }
         }
-        Inserted::Refused(refusal) => Opened::Refused(refusal),
+        Err(refusal) => Err(refusal),
     }
 }

@@ -1,4 +1,5 @@
 -- Laws of the shift of a member's headings to level 2: the first line that goes past, line by line, and the answers. Assumes nothing.
+use Rattle.std.specs.Prelude.{Option, Some, None, Ok, Err}
 use Prim.Native.Nat.{ℕ, ◌+◌, ◌≤◌}
 use native.Mathlib.Omega.{arith}
 use mathlib.Core.Path.{◌≡◌, sym, ap, ◌∙◌, subst}
@@ -8,13 +9,10 @@ use lib.IntN.{ℤ, pos, ◌+ℤ◌}
 use lib.Signed.{mag}
 use Rattle.text.specs.Bytes.{part}
 use Rattle.heading.specs.Level.{shift_of, moved_to, is_past, goes_past, any_past, first_past}
-use Rattle.heading.specs.declared.level.TopLevel.{TopLevel}
-use Rattle.heading.specs.declared.level.TopLevel.TheVariants.{Level, NoHeading}
 use Rattle.heading.specs.declared.walk.LineKind.{LineKind}
 use Rattle.heading.proofs.PastLaws.{deepest-past, none-past, shift_level}
 use Rattle.shift.specs.Levels.{HasLevel, AreLevels}
 use Rattle.shift.specs.Shift.{Told, kinds_of, shift_for}
-use Rattle.shift.specs.declared.level.Shift.TheVariants.{By, PastAt}
 use Rattle.shift.proofs.LevelsLaws.{step-level, Ahead, ahead_here, ahead_turn}
 use Rattle.member.specs.Member.{movable}
 use Rattle.member.specs.Lines.{left_of, at_first, CursorIn, IsLine}
@@ -60,22 +58,22 @@ module _ {z : ℤ} {s : List ℕ} {c d : LineCursor} {a e : ℕ} {k : LineKind} 
   below-line q r = record { cursor = (line-next b.cursor l).0; ahead = rw (r, counted) (ahead_turn b.ahead line q) }
 
 -- x is the shift to level 2
-module _ (s : List ℕ) {top : TopLevel} {d : ℕ} (a : AreLevels (moved_kinds s) top d) (x : ℤ) (r : x ≡ shift_of 2 top) where
+module _ (s : List ℕ) {top : Option ℕ} {d : ℕ} (a : AreLevels (moved_kinds s) top d) (x : ℤ) (r : x ≡ shift_of 2 top) where
   shift_is : x ≡ shift_for 2 (moved_kinds s)
   shift_is = r ∙ ap (shift_of 2) a.shallow
 
   -- a heading goes past where the deepest does
-  pub below-past : {b : Bool} (n : ℕ) → top ≡ Level n → b ≡ is_past (moved_to (pos d +ℤ x)) → any_past x (moved_kinds s) ≡ b
-  below-past n q p = rw (a.deep, r ∙ ap (shift_of 2) q) (deepest-past n 1 (shift_of 2 (Level n)) (shift_level 2 n) (moved_kinds s) (sym a.shallow ∙ q)) ∙ sym p
+  pub below-past : {b : Bool} (n : ℕ) → top ≡ Some n → b ≡ is_past (moved_to (pos d +ℤ x)) → any_past x (moved_kinds s) ≡ b
+  below-past n q p = rw (a.deep, r ∙ ap (shift_of 2) q) (deepest-past n 1 (shift_of 2 (Some n)) (shift_level 2 n) (moved_kinds s) (sym a.shallow ∙ q)) ∙ sym p
 
   -- with no heading none does
-  pub below_none : top ≡ NoHeading → any_past x (moved_kinds s) ≡ false
+  pub below_none : top ≡ None → any_past x (moved_kinds s) ≡ false
   below_none q = none-past x (moved_kinds s) (sym a.shallow ∙ q)
 
   -- the answers
-  pub below_by : mag x ≤ 7 → any_past x (moved_kinds s) ≡ false → ShiftBelow s (By x)
+  pub below_by : mag x ≤ 7 → any_past x (moved_kinds s) ≡ false → ShiftBelow s (Ok x)
   below_by m p = (shift_is, (m, ap (λ (z : ℤ). any_past z (moved_kinds s)) (sym shift_is) ∙ p))
 
-  pub below-past-at : {n : ℕ} → any_past x (moved_kinds s) ≡ true → n ≡ 1 + first_past x (moved_kinds s) → ShiftBelow s (PastAt n)
+  pub below-past-at : {n : ℕ} → any_past x (moved_kinds s) ≡ true → n ≡ 1 + first_past x (moved_kinds s) → ShiftBelow s (Err n)
   below-past-at p q =
       (ap (λ (z : ℤ). any_past z (moved_kinds s)) (sym shift_is) ∙ p, q ∙ ap (λ (z : ℤ). 1 + first_past z (moved_kinds s)) shift_is)

@@ -1,4 +1,5 @@
 -- Laws of blank lines at the end of told lines: a line more, and what is prepared of the lines kept. Assumes nothing.
+use Rattle.std.specs.Prelude.{None}
 use Prim.Native.Nat.{ℕ, zero, suc, ◌≤◌}
 use native.Mathlib.Omega.{arith}
 use mathlib.Core.Path.{◌≡◌, refl, sym, ap, ◌∙◌, subst}
@@ -11,7 +12,6 @@ use Rattle.text.specs.Lines.{pieces}
 use Rattle.fence.specs.declared.Fence.{Fence}
 use Rattle.heading.specs.Level.{shallowest_of, deepest_of}
 use Rattle.heading.specs.Walk.{step_kind, step_after, walk_begin}
-use Rattle.heading.specs.declared.level.TopLevel.TheVariants.{NoHeading}
 use Rattle.heading.specs.declared.walk.LineKind.TheVariants.{Heading}
 use Rattle.heading.specs.declared.walk.WalkState.{WalkState}
 use Rattle.heading.proofs.StillLaws.{blank_kind}
@@ -120,9 +120,9 @@ module _ (s : List ℕ) where
   pub prepared_title : title_of (prepared_lines s) ≡ title_of (kept_lines s)
   prepared_title = sym (title-plain (prepared_lines s) rest (rest_plain walk_begin kept)) ∙ ap title_of both
 
-  pub prepared_shallowest : shallowest_of NoHeading (kinds_of (movable (prepared_lines s))) ≡ shallowest_of NoHeading (kinds_of (movable (kept_lines s)))
+  pub prepared_shallowest : shallowest_of None (kinds_of (movable (prepared_lines s))) ≡ shallowest_of None (kinds_of (movable (kept_lines s)))
   prepared_shallowest =
-      sym (shallowest_plain (prepared_lines s) rest (rest_plain walk_begin kept)) ∙ ap (λ (ts : List Told). shallowest_of NoHeading (kinds_of (movable ts))) both
+      sym (shallowest_plain (prepared_lines s) rest (rest_plain walk_begin kept)) ∙ ap (λ (ts : List Told). shallowest_of None (kinds_of (movable ts))) both
 
   pub prepared_deepest : deepest_of 0 (kinds_of (movable (prepared_lines s))) ≡ deepest_of 0 (kinds_of (movable (kept_lines s)))
   prepared_deepest = sym (deepest-plain (prepared_lines s) rest (rest_plain walk_begin kept)) ∙ ap (λ (ts : List Told). deepest_of 0 (kinds_of (movable ts))) both

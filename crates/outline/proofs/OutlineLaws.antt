@@ -1,5 +1,6 @@
 -- Laws for the loop that prepares a member: the lines kept so far, the title and the levels among them, and where those that are not blank end.
 -- Assumes nothing.
+use Rattle.std.specs.Prelude.{None}
 use Prim.Native.Nat.{ℕ, zero, suc, ◌+◌, ◌^◌, ◌≤◌, ◌<◌}
 use native.Mathlib.Omega.{arith}
 use mathlib.Core.Path.{◌≡◌, refl, sym, ap, ◌∙◌, subst}
@@ -15,7 +16,6 @@ use Rattle.heading.specs.Level.{shallowest_of, deepest_of, IsLevel}
 use Rattle.fence.specs.declared.Fence.{Fence}
 use Rattle.fence.specs.declared.Fence.TheVariants.{Outside, Ticks, Tildes}
 use Rattle.heading.specs.Walk.{walk_begin, still_kind}
-use Rattle.heading.specs.declared.level.TopLevel.TheVariants.{NoHeading}
 use Rattle.heading.specs.declared.walk.LineKind.{LineKind}
 use Rattle.heading.specs.declared.walk.LineKind.TheVariants.{Quoted, Heading, Other}
 use Rattle.heading.proofs.WalkLaws.{kind-within}
@@ -30,7 +30,7 @@ use Rattle.outline.specs.Outline.{IsOutline, moved_kinds}
 use Rattle.member.specs.Passed.{PassedLines, PassedTo}
 use Rattle.outline.specs.Seen.{titled_by, moved_kind, title_at, Placed, SeenWith, ended_at}
 use Rattle.member.specs.declared.lines.LineCursor.{LineCursor}
-use Rattle.outline.specs.declared.Extent.{Extent}
+use Rattle.text.specs.declared.part.Part.{Part}
 use Rattle.outline.specs.declared.Seen.{Seen}
 use Rattle.member.proofs.LinesLaws.{lines_on_lem, lines-off}
 use Rattle.member.proofs.HeadingLaws.{line-next, heading_in}
@@ -71,7 +71,7 @@ module _ {s : List ℕ} {c d : LineCursor} {a e : ℕ} {k : LineKind} (l : IsLin
         ∙ append-nil (ts ++ (line ∷ []))
 
 -- there is a title among the lines kept so far, and those that are not blank end at place e
-pub record Entitled (s : List ℕ) (ts : List Told) (at e : ℕ) (x : Extent) : Type 0 where
+pub record Entitled (s : List ℕ) (ts : List Told) (at e : ℕ) (x : Part) : Type 0 where
   pub within : e ≤ length s
   pub before : e ≤ at
   pub lines : trimmed ts ≡ kept_lines (take e s)
@@ -79,14 +79,14 @@ pub record Entitled (s : List ℕ) (ts : List Told) (at e : ℕ) (x : Extent) : 
   pub forward : x.start ≤ x.end
   pub inside : x.end ≤ e
 
-abbrev HasSeen : List ℕ → List Told → LineCursor → Bool → ℕ → Extent → Type 0
+abbrev HasSeen : List ℕ → List Told → LineCursor → Bool → ℕ → Part → Type 0
 HasSeen s ts c true e x = Entitled s ts c.at e x
 HasSeen s ts c false e x = title_of (kept_lines s) ≡ title_of (left_of c s)
 
 -- one line more
 module _ {s : List ℕ} {c d : LineCursor} {a e : ℕ} (ts : List Told) (r : Reach s c ts) where
   -- behind the title
-  entitled-line : {k : LineKind} {m : ℕ} {x : Extent} (l : IsLine s c a e k d) → Entitled s ts c.at m x
+  entitled-line : {k : LineKind} {m : ℕ} {x : Part} (l : IsLine s c a e k d) → Entitled s ts c.at m x
       → Entitled s (ts ++ (line l ∷ [])) d.at (cond (is_blank (part a e s)) m e) x
   entitled-line {k} {m} {x} l h = go (is_blank (part a e s)) refl
     where
@@ -126,7 +126,7 @@ module _ {s : List ℕ} {c d : LineCursor} {a e : ℕ} (ts : List Told) (r : Rea
         inside = omega (arith, l.forward);
       })
 
-  seen-line : (t : Bool) (k : LineKind) (m : ℕ) (x : Extent) (l : IsLine s c a e k d) → HasSeen s ts c t m x
+  seen-line : (t : Bool) (k : LineKind) (m : ℕ) (x : Part) (l : IsLine s c a e k d) → HasSeen s ts c t m x
       → HasSeen s (ts ++ (line l ∷ [])) d (titled_by t k) (cond (is_blank (part a e s)) m e) (title_at t a k x)
   seen-line true Quoted m x l h = entitled-line l h
   seen-line true (Heading n i j) m x l h = entitled-line l h
@@ -151,7 +151,7 @@ pub record Outlines (s : List ℕ) (c : LineCursor) (z : Seen) : Type 0 where
   pub small : z.outline.levels.deepest ≤ 6
 
 pub outlines_none : (s : List ℕ) (c : LineCursor) → c ≡ at_first
-    → Outlines s c (record { titled = false; outline = record { end = 0; title = record { start = 0; end = 0 }; levels = record { top = NoHeading; deepest = 0 } } })
+    → Outlines s c (record { titled = false; outline = record { end = 0; title = record { start = 0; end = 0 }; levels = record { top = None; deepest = 0 } } })
 outlines_none s c e =
     rw e (record {
       cursor = omega arith;
@@ -159,7 +159,7 @@ outlines_none s c e =
       reach = λ n h i. kept-first (take n s);
       seen = ap title_of (kept-first s);
       found = record {
-        shallow = ap (λ (ts : List Told). shallowest_of NoHeading (kinds_of (movable ts))) (sym (kept-first s));
+        shallow = ap (λ (ts : List Told). shallowest_of None (kinds_of (movable ts))) (sym (kept-first s));
         deep = ap (λ (ts : List Told). deepest_of 0 (kinds_of (movable ts))) (sym (kept-first s));
       };
       level = tt;

@@ -1,5 +1,6 @@
 -- Laws of the title and of the headings that move, line by line, with a title before or not; and that lines which are no headings do not change
 -- them. Assumes nothing.
+use Rattle.std.specs.Prelude.{Option, Some, None}
 use Prim.Native.Nat.{ℕ, ◌≤◌}
 use native.Mathlib.Omega.{arith}
 use mathlib.Core.Path.{◌≡◌, refl, sym, ap, ◌∙◌}
@@ -8,8 +9,6 @@ use mathlib.Core.List.{List, [], ◌∷◌, ◌++◌}
 use mathlib.Core.Option.{none}
 use lib.Dec.{eqb}
 use Rattle.heading.specs.Level.{shallower, shallowest_of, deeper, deepest_of, IsLevel}
-use Rattle.heading.specs.declared.level.TopLevel.{TopLevel}
-use Rattle.heading.specs.declared.level.TopLevel.TheVariants.{Level, NoHeading}
 use Rattle.heading.specs.declared.walk.LineKind.{LineKind}
 use Rattle.heading.specs.declared.walk.LineKind.TheVariants.{Quoted, Heading, Other}
 use Rattle.shift.specs.Shift.{Told, kinds_of}
@@ -52,10 +51,10 @@ moved_level false (Heading n x y) h = go (eqb n 1)
     go false = h
 moved_level t Other h = tt
 
-pub level-shallower : (b : TopLevel) (k : LineKind) → HasLevel k → IsLevel b → IsLevel (shallower b k)
+pub level-shallower : (b : Option ℕ) (k : LineKind) → HasLevel k → IsLevel b → IsLevel (shallower b k)
 level-shallower b Quoted h q = q
-level-shallower NoHeading (Heading n x y) h q = h
-level-shallower (Level m) (Heading n x y) h q = (omega arith, omega arith)
+level-shallower None (Heading n x y) h q = h
+level-shallower (Some m) (Heading n x y) h q = (omega arith, omega arith)
 level-shallower b Other h q = q
 
 pub level-deeper : (b : ℕ) (k : LineKind) → HasLevel k → b ≤ 6 → deeper b k ≤ 6
@@ -112,7 +111,7 @@ module _ {C : Type 0} (step : C → LineKind → C) (F : C → List LineKind →
       ∙ moved_plain v (step b k) ts us p
       ∙ sym (ap (F b) (moved_turn t u ts) ∙ on b k (kinds_of (moved_from v ts)))
 
-plain-shallower : (b : TopLevel) (k : LineKind) → IsPlain k → shallower b k ≡ b
+plain-shallower : (b : Option ℕ) (k : LineKind) → IsPlain k → shallower b k ≡ b
 plain-shallower b Quoted q = refl
 plain-shallower b (Heading n x y) q = absurd q
 plain-shallower b Other q = refl
@@ -122,9 +121,9 @@ plain-deeper b Quoted q = refl
 plain-deeper b (Heading n x y) q = absurd q
 plain-deeper b Other q = refl
 
-pub shallowest_plain : (ts us : List Told) → Plain us → shallowest_of NoHeading (kinds_of (movable (ts ++ us))) ≡ shallowest_of NoHeading (kinds_of (movable ts))
+pub shallowest_plain : (ts us : List Told) → Plain us → shallowest_of None (kinds_of (movable (ts ++ us))) ≡ shallowest_of None (kinds_of (movable ts))
 unfolding shallowest_of
-shallowest_plain ts us p = moved_plain shallower shallowest_of (λ b. refl) (λ b k ks. refl) plain-shallower false NoHeading ts us p
+shallowest_plain ts us p = moved_plain shallower shallowest_of (λ b. refl) (λ b k ks. refl) plain-shallower false None ts us p
 
 pub deepest-plain : (ts us : List Told) → Plain us → deepest_of 0 (kinds_of (movable (ts ++ us))) ≡ deepest_of 0 (kinds_of (movable ts))
 unfolding deepest_of

@@ -1,5 +1,5 @@
 -- What is known of a member once it is prepared. Nothing here is document 01's: functions promise it.
-use Rattle.std.specs.Prelude.{ℕ, ◌+◌, ◌≤◌, ◌≡◌, true, false, List, length, take}
+use Rattle.std.specs.Prelude.{ℕ, ◌+◌, ◌≤◌, ◌≡◌, true, false, List, length, take, Option, Some, None, Result, Ok, Err}
 use Rattle.std.proofs.Math.Option.{none, some}
 use Rattle.std.specs.Int.Signed.{mag}
 use Rattle.text.specs.Bytes.{part}
@@ -7,13 +7,9 @@ use Rattle.heading.specs.Level.{any_past, first_past}
 use Rattle.heading.specs.declared.walk.LineKind.{LineKind}
 use Rattle.shift.specs.Shift.{kinds_of, shift_for}
 use Rattle.shift.specs.Levels.{AreLevels}
-use Rattle.shift.specs.declared.level.Shift.{Shift}
-use Rattle.shift.specs.declared.level.Shift.TheVariants.{By, PastAt}
 use Rattle.member.specs.Member.{prepared_lines, title_of, movable}
 use Rattle.member.specs.Lines.{kept_lines}
 use Rattle.outline.specs.declared.Outline.{Outline}
-use Rattle.outline.specs.declared.Outlined.{Outlined}
-use Rattle.outline.specs.declared.Outlined.TheVariants.{Titled, Untitled}
 
 -- the prepared lines of s are the lines kept up to a place; where the title stands in s; the levels of the other headings
 pub record IsOutline (s : List ℕ) (o : Outline) : Type 0 where
@@ -24,15 +20,15 @@ pub record IsOutline (s : List ℕ) (o : Outline) : Type 0 where
   pub inside : o.title.end ≤ o.end
   pub levels : AreLevels (kinds_of (movable (prepared_lines s))) o.levels.top o.levels.deepest
 
-abbrev pub FoundOutline : List ℕ → Outlined → Type 0
-FoundOutline s (Titled o) = IsOutline s o
-FoundOutline s Untitled = title_of (prepared_lines s) ≡ none
+abbrev pub FoundOutline : List ℕ → Option Outline → Type 0
+FoundOutline s (Some o) = IsOutline s o
+FoundOutline s None = title_of (prepared_lines s) ≡ none
 
 -- the kinds of the lines kept of s, the first H1 being no heading to be moved
 abbrev pub moved_kinds : List ℕ → List LineKind
 moved_kinds s = kinds_of (movable (kept_lines s))
 
 -- the shift to level 2, where no heading goes past level 6; or the first line that does, counted from 1
-abbrev pub ShiftBelow : List ℕ → Shift → Type 0
-ShiftBelow s (By x) = (x ≡ shift_for 2 (moved_kinds s)) × ((mag x ≤ 7) × (any_past (shift_for 2 (moved_kinds s)) (moved_kinds s) ≡ false))
-ShiftBelow s (PastAt n) = (any_past (shift_for 2 (moved_kinds s)) (moved_kinds s) ≡ true) × (n ≡ 1 + first_past (shift_for 2 (moved_kinds s)) (moved_kinds s))
+abbrev pub ShiftBelow : List ℕ → Result ℤ ℕ → Type 0
+ShiftBelow s (Ok x) = (x ≡ shift_for 2 (moved_kinds s)) × ((mag x ≤ 7) × (any_past (shift_for 2 (moved_kinds s)) (moved_kinds s) ≡ false))
+ShiftBelow s (Err n) = (any_past (shift_for 2 (moved_kinds s)) (moved_kinds s) ≡ true) × (n ≡ 1 + first_past (shift_for 2 (moved_kinds s)) (moved_kinds s))

@@ -3,7 +3,7 @@ use Rattle.std.specs.Prelude.{ℕ, ◌+◌, ◌^◌, ◌≤◌, ◌<◌, ◌≡�
 use Rattle.heading.specs.Level.{shallower, deeper}
 use Rattle.heading.specs.declared.walk.LineKind.{LineKind}
 use Rattle.heading.specs.declared.walk.LineKind.TheVariants.{Quoted, Heading, Other}
-use Rattle.outline.specs.declared.Extent.{Extent}
+use Rattle.text.specs.declared.part.Part.{Part}
 use Rattle.outline.specs.declared.Seen.{Seen}
 
 -- whether there is a title among the lines up to one of this kind: the first H1
@@ -19,7 +19,7 @@ moved_kind t (Heading n x y) = cond t (Heading n x y) (cond (eqb n 1) Other (Hea
 moved_kind t Other = Other
 
 -- where the title's text stands, where a line of this kind starts at place a
-abbrev pub title_at : Bool → ℕ → LineKind → Extent → Extent
+abbrev pub title_at : Bool → ℕ → LineKind → Part → Part
 title_at t a Quoted o = o
 title_at t a (Heading n x y) o = cond t o (cond (eqb n 1) (record { start = a + x; end = a + y }) o)
 title_at t a Other o = o

@@ -9,33 +9,20 @@ ghost use Rattle.shift.specs.Levels.{AreLevels};
 ghost use Rattle.outline.specs.Seen.{titled_by, moved_kind, title_at, Placed, SeenWith, ended_at};
 ghost use Rattle.outline.specs.Outline.{FoundOutline, moved_kinds, ShiftBelow};
 
-use heading::level::TopLevel;
 use heading::walk::LineKind;
 use member::lines;
-use member::lines::NextLine;
+use member::lines::KeptLine;
 use shift::level;
-use shift::level::{Levels, Shift};
+use shift::level::Levels;
+use text::part::Part;
 use text::space;
-
-// Where a text starts and ends in a member.
-#[derive(Clone, Copy)]
-pub struct Extent {
-    pub start: usize,
-    pub end: usize,
-}
 
 // Where its lines end without blank ones, where its title's text stands, and the levels of its other headings.
 #[derive(Clone, Copy)]
 pub struct Outline {
     pub end: usize,
-    pub title: Extent,
+    pub title: Part,
     pub levels: Levels,
-}
-
-#[derive(Clone, Copy)]
-pub enum Outlined {
-    Titled(Outline),
-    Untitled,
 }
 
 // The outline of the lines seen so far, and whether there is a title among them.
@@ -84,7 +71,7 @@ pub fn moved_kind(titled: bool, kind: LineKind) -> LineKind
 }
 
 // Where the title's text stands, where a line of this kind starts at a place.
-fn title_at(titled: bool, at: usize, kind: LineKind, old: Extent) -> Extent
+fn title_at(titled: bool, at: usize, kind: LineKind, old: Part) -> Part
     requires { Placed kind at }
     ensures { result ≡ title_at titled at kind old }
 {
@@ -95,7 +82,7 @@ fn title_at(titled: bool, at: usize, kind: LineKind, old: Extent) -> Extent
                 return old;
             }
             if level == 1 {
-                return Extent {
+                return Part {
                     start: at + start,
                     end: at + end,
                 };
@@ -145,16 +132,16 @@ fn ended_at(seen: Seen, end: usize) -> Seen
 }
 
 // Prepares a member: its lines without hand-written contents and without blank ones at the end, its title and its levels.
-pub fn prepare(s: &[u8]) -> Outlined
+pub fn prepare(s: &[u8]) -> Option<Outline>
     ensures { FoundOutline s.now result }
 {
     let mut seen = Seen {
         titled: false,
         outline: Outline {
             end: 0,
-            title: Extent { start: 0, end: 0 },
+            title: Part { start: 0, end: 0 },
             levels: Levels {
-                top: TopLevel::NoHeading,
+                top: None,
                 deepest: 0,
             },
         },
@@ -164,18 +151,20 @@ pub fn prepare(s: &[u8]) -> Outlined
         let passed = lines::pass(s, c, seen.outline.end, false);
         let end = passed.end;
         seen = ended_at(seen, end);
-        let NextLine::Line {
-            start: a,
-            end: e,
-            kind,
-            behind,
-        } = lines::next_line(s, passed.behind)
+        let Some(
+            KeptLine {
+                start: a,
+                end: e,
+                kind,
+                behind,
+            },
+        ) = lines::next_line(s, passed.behind)
         else {
             if seen.titled {
                 let outline = seen.outline;
-                return Outlined::Titled(outline);
+                return Some(outline);
             }
-            return Outlined::Untitled;
+            return None;
         };
         seen = with_line(seen, a, end_with(end, &s[a..e], e), kind);
         c = behind;
@@ -190,12 +179,14 @@ fn past_line(s: &[u8], shift: i32) -> usize
     let mut titled = false;
     let mut c = lines::first();
     loop {
-        let NextLine::Line {
-            start: _,
-            end: _,
-            kind,
-            behind,
-        } = lines::next_line(s, c)
+        let Some(
+            KeptLine {
+                start: _,
+                end: _,
+                kind,
+                behind,
+            },
+        ) = lines::next_line(s, c)
         else {
             return c.line;
         };
@@ -209,19 +200,19 @@ fn past_line(s: &[u8], shift: i32) -> usize
 }
 
 // The shift that takes the shallowest of a prepared member's headings to level 2, the title excepted.
-pub fn shift_below(s: &[u8], levels: Levels) -> Shift
+pub fn shift_below(s: &[u8], levels: Levels) -> Result<i32, usize>
     requires { AreLevels (moved_kinds s.now) levels.top levels.deepest }
     ensures { ShiftBelow s.now result }
 {
     let top = levels.top;
     let shift = heading::level::shift_to(2, top);
     match top {
-        TopLevel::Level(_) => {
+        Some(_) => {
             if level::is_past(levels.deepest, shift) {
-                return Shift::PastAt(past_line(s, shift));
+                return Err(past_line(s, shift));
             }
-            Shift::By(shift)
+            Ok(shift)
         }
-        TopLevel::NoHeading => Shift::By(shift),
+        None => Ok(shift),
     }
 }

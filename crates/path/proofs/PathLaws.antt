@@ -1,5 +1,6 @@
 -- Laws of `specs/Path.antt`: the parts of a text from the last one back, a resolved path from its last part to its first, and a part that stands in a
 -- name. Assumes nothing.
+use Rattle.std.specs.Prelude.{Option, Some, None}
 use Prim.Native.Nat.{ℕ, zero, suc, ◌+◌, ◌-◌, ◌≤◌, ◌<◌}
 use native.Mathlib.Nat.{not-suc-le-zero}
 use native.Mathlib.Numerals.{add-one, sub-one}
@@ -14,8 +15,6 @@ use borrow.Author.Tests.{eqb-false}
 use Rattle.text.specs.Bytes.{part, is, after_last}
 use Rattle.text.specs.Pattern.{bytes, starts_with, equals, ends_with}
 use Rattle.text.specs.Split.{split, join}
-use Rattle.text.specs.declared.pattern.Found.{Found}
-use Rattle.text.specs.declared.pattern.Found.TheVariants.{At, Nothing}
 use Rattle.text.proofs.PatternLaws.{ends-append, ends-not, equals-not}
 use Rattle.text.proofs.BytesLaws.{drop_take, part_length, or_left}
 use Rattle.text.proofs.SplitLaws.{split_back, split-whole}
@@ -24,7 +23,6 @@ use Rattle.path.specs.Backward.{put, Tail, tail, dropped, before, tail_of, parts
 use Rattle.path.specs.declared.BackPart.{BackPart}
 use Rattle.path.specs.declared.BackPart.TheVariants.{Kept, Above}
 use Rattle.path.specs.declared.PathCursor.{PathCursor}
-use Rattle.path.specs.declared.PathPart.TheVariants.{Root}
 
 -- parts before parts
 tail-append : (a b : List (List ℕ)) (t : Tail) → tail_of (a ++ b) t ≡ tail_of a (tail_of b t)
@@ -106,7 +104,7 @@ module _ (dir path : List ℕ) (c : PathCursor) where
       above : (t : List ℕ) → tail_of (rest dir path c) (tail 0 t) ≡ tail_of (base dir path) (tail u t)
       above t = rw i (tail-append (base dir path) (parts_left c.left path) (tail 0 t) ∙ ap (tail_of (base dir path)) (b.1 t))
 
-      pub above_root : starts_with (bytes "/") path ≡ true → LastPart dir path c Root
+      pub above_root : starts_with (bytes "/") path ≡ true → LastPart dir path c None
       unfolding tail_of
       above_root e t =
           let q : tail_of (rest dir path c) (tail 0 t) ≡ tail u t = above t ∙ rw e in
@@ -227,7 +225,7 @@ reached_end : {dir path : List ℕ} {c : PathCursor} {t : List ℕ} → Reached 
 reached_end {dir} {path} {c} {t} r = let h = tail-end (rest dir path c) 0 t in (h.0, h.1 ∙ r.same)
 
 module _ {dir path : List ℕ} {c : PathCursor} {t : List ℕ} (r : Reached dir path c t) where
-  pub reached_root : LastPart dir path c Root → t ≡ resolve dir path
+  pub reached_root : LastPart dir path c None → t ≡ resolve dir path
   reached_root h = sym (h t) ∙ r.same
 
   module _ {b : PathCursor} {e : ℕ} (h : LastKept dir path c b e) where
@@ -262,14 +260,14 @@ module _ (p name : List ℕ) (at : ℕ) where
             let n : length (x ++ p) ≡ e = omega (arith, simp length-append at (ap length q), length-append x p, length-drop at name) in
             g (ap (λ (l : List ℕ). get_or l e 0) (sym q ∙ sym (append_assoc x p (SLASH ∷ drop at name))) ∙ get_or_at (x ++ p) SLASH (drop at name) 0 e n)
 
-    pub found_before : (r : Found) → get_or name e 0 ≡ SLASH → FoundPart p (take e name) (length (take e name)) r → FoundPart p name at r
-    found_before (At a) g f =
+    pub found_before : (r : Option ℕ) → get_or name e 0 ≡ SLASH → FoundPart p (take e name) (length (take e name)) r → FoundPart p name at r
+    found_before (Some a) g f =
         let n : length (take e name) ≡ e = length-take-le e name (omega arith) in
         let d : drop a (take e name) ≡ p = f.1 ∙ rw (drop-length (take e name)) in (
           omega arith,
           ap (drop a) name-here ∙ rw (drop-append-le a (take e name) (get_or name e 0 ∷ drop at name) (omega arith), d, g, put-here),
         )
-    found_before Nothing g f = rw put-here (ends-not (p ++ (SLASH ∷ drop at name)) name none)
+    found_before None g f = rw put-here (ends-not (p ++ (SLASH ∷ drop at name)) name none)
       where
         none : (x : List ℕ) → x ++ (p ++ (SLASH ∷ drop at name)) ≡ name → ⊥
         none x q =

@@ -1,16 +1,13 @@
 -- The parts of a path from the last one to the first. Nothing here is document 01's: inner functions promise it, and the laws of `proofs/` tie it to `resolve`.
-use Rattle.std.specs.Prelude.{ℕ, zero, suc, ◌+◌, ◌-◌, ◌≤◌, ◌<◌, Bool, true, false, cond, List, [], ◌∷◌, ◌++◌, ◌≡◌, length, take, drop}
+use Rattle.std.specs.Prelude.{ℕ, zero, suc, ◌+◌, ◌-◌, ◌≤◌, ◌<◌, Bool, true, false, cond, List, [], ◌∷◌, ◌++◌, ◌≡◌, length, take, drop, Option, Some, None}
+use Rattle.path.specs.declared.PathPart.{PathPart}
 use Rattle.text.specs.Bytes.{part}
 use Rattle.text.specs.Pattern.{ends_with}
 use Rattle.text.specs.Split.{split}
-use Rattle.text.specs.declared.pattern.Found.{Found}
-use Rattle.text.specs.declared.pattern.Found.TheVariants.{At, Nothing}
 use Rattle.path.specs.Path.{SLASH, base, goes, is_up}
 use Rattle.path.specs.declared.BackPart.{BackPart}
 use Rattle.path.specs.declared.BackPart.TheVariants.{Kept, Above}
 use Rattle.path.specs.declared.PathCursor.{PathCursor}
-use Rattle.path.specs.declared.PathPart.{PathPart}
-use Rattle.path.specs.declared.PathPart.TheVariants.{Part, Root}
 
 -- a part before the text of the parts behind it
 abbrev pub put : List ℕ → List ℕ → List ℕ
@@ -79,9 +76,9 @@ abbrev pub Within : List ℕ → List ℕ → PathCursor → Type 0
 Within dir path c = c.left ≤ suc (length (holder dir path c.inside))
 
 -- a part of the directory, or none
-abbrev pub in_dir : BackPart → PathPart
-in_dir (Kept a e) = Part (cursor true a) e
-in_dir (Above n) = Root
+abbrev pub in_dir : BackPart → Option PathPart
+in_dir (Kept a e) = Some (record { before = cursor true a; end = e })
+in_dir (Above n) = None
 
 -- the last part kept of what cursor c has left ends at e, and cursor b has left what stands before it
 pub record LastKept (dir path : List ℕ) (c b : PathCursor) (e : ℕ) : Type 0 where
@@ -90,11 +87,11 @@ pub record LastKept (dir path : List ℕ) (c b : PathCursor) (e : ℕ) : Type 0 
   pub same : (t : List ℕ) → (tail_of (rest dir path c) (tail 0 t)).text ≡ (tail_of (rest dir path b) (tail 0 (put (piece dir path b e) t))).text
 
 -- the same of an answer, which may be that no part is left
-abbrev pub LastPart : List ℕ → List ℕ → PathCursor → PathPart → Type 0
-LastPart dir path c (Part b e) = LastKept dir path c b e
-LastPart dir path c Root = (t : List ℕ) → (tail_of (rest dir path c) (tail 0 t)).text ≡ t
+abbrev pub LastPart : List ℕ → List ℕ → PathCursor → Option PathPart → Type 0
+LastPart dir path c (Some p) = LastKept dir path c p.before p.end
+LastPart dir path c None = (t : List ℕ) → (tail_of (rest dir path c) (tail 0 t)).text ≡ t
 
 -- where a name goes on from, once a part is put before its bytes from a place on; or that it does not end so
-abbrev pub FoundPart : List ℕ → List ℕ → ℕ → Found → Type 0
-FoundPart p name at (At a) = (a ≤ at) × (drop a name ≡ put p (drop at name))
-FoundPart p name at Nothing = ends_with (put p (drop at name)) name ≡ false
+abbrev pub FoundPart : List ℕ → List ℕ → ℕ → Option ℕ → Type 0
+FoundPart p name at (Some a) = (a ≤ at) × (drop a name ≡ put p (drop at name))
+FoundPart p name at None = ends_with (put p (drop at name)) name ≡ false

@@ -6,7 +6,6 @@ ghost use Rattle.std.specs.Prelude.{◌≡◌, suc, ◌+◌, ◌≤◌, length, 
 ghost use Rattle.path.specs.Path.{parent_dir, goes};
 ghost use Rattle.path.specs.Backward.{Back, LastPart, Within, in_dir, from_end, Bounded, piece, FoundPart};
 
-use text::pattern::Found;
 use text::{bytes, pattern};
 
 // A part that is kept, by its ends, or none and how many parts are still to be dropped.
@@ -26,9 +25,9 @@ pub struct PathCursor {
 
 // A part that is kept, by what is left before it and where it ends; or none.
 #[derive(Clone, Copy)]
-pub enum PathPart {
-    Part { before: PathCursor, end: usize },
-    Root,
+pub struct PathPart {
+    pub before: PathCursor,
+    pub end: usize,
 }
 
 // How long the directory of a file is.
@@ -78,23 +77,23 @@ fn back(s: &[u8], left: usize, up: usize) -> BackPart
     BackPart::Above(up)
 }
 
-fn in_dir(found: BackPart) -> PathPart
+fn in_dir(found: BackPart) -> Option<PathPart>
     ensures { result ≡ in_dir found }
 {
     match found {
-        BackPart::Kept { start, end } => PathPart::Part {
+        BackPart::Kept { start, end } => Some(PathPart {
             before: PathCursor {
                 inside: true,
                 left: start,
             },
             end,
-        },
-        BackPart::Above(_) => PathPart::Root,
+        }),
+        BackPart::Above(_) => None,
     }
 }
 
 // The last part kept of what is left.
-pub fn last_part(path: &[u8], dir: &[u8], from: PathCursor) -> PathPart
+pub fn last_part(path: &[u8], dir: &[u8], from: PathCursor) -> Option<PathPart>
     requires { Within dir.now path.now from }
     ensures { LastPart dir.now path.now from result }
 {
@@ -102,16 +101,16 @@ pub fn last_part(path: &[u8], dir: &[u8], from: PathCursor) -> PathPart
         return in_dir(back(dir, from.left, 0));
     }
     match back(path, from.left, 0) {
-        BackPart::Kept { start, end } => PathPart::Part {
+        BackPart::Kept { start, end } => Some(PathPart {
             before: PathCursor {
                 inside: false,
                 left: start,
             },
             end,
-        },
+        }),
         BackPart::Above(up) => {
             if pattern::starts_with(path, b"/") {
-                return PathPart::Root;
+                return None;
             }
             in_dir(back(dir, dir.len() + 1, up))
         }
@@ -128,17 +127,17 @@ pub fn from_end(path: &[u8]) -> PathCursor
     }
 }
 
-fn find_end(part: &[u8], name: &[u8]) -> Found
+fn find_end(part: &[u8], name: &[u8]) -> Option<usize>
     ensures { FoundPart part.now name.now (length name.now) result }
 {
     if pattern::ends_with(name, part) {
-        return Found::At(name.len() - part.len());
+        return Some(name.len() - part.len());
     }
-    Found::Nothing
+    None
 }
 
 // Where a part starts in a name that has it directly before a place, with a `/` behind it unless the place is the name's end.
-fn find_part(part: &[u8], name: &[u8], at: usize) -> Found
+fn find_part(part: &[u8], name: &[u8], at: usize) -> Option<usize>
     requires { at ≤ length name.now }
     ensures { FoundPart part.now name.now at result }
 {
@@ -146,11 +145,11 @@ fn find_part(part: &[u8], name: &[u8], at: usize) -> Found
         return find_end(part, name);
     }
     if at == 0 {
-        return Found::Nothing;
+        return None;
     }
     let e = at - 1;
     if name[e] != b'/' {
-        return Found::Nothing;
+        return None;
     }
     find_end(part, &name[..e])
 }
@@ -163,7 +162,7 @@ pub fn find_kept(
     end: usize,
     name: &[u8],
     at: usize,
-) -> Found
+) -> Option<usize>
     requires { Bounded dir.now path.now before end × (at ≤ length name.now) }
     ensures { FoundPart (piece dir.now path.now before end) name.now at result }
 {

@@ -1,4 +1,5 @@
 -- Laws of what is put for a target, piece after piece. Assumes nothing.
+use Rattle.std.specs.Prelude.{Option, Some, None}
 use Prim.Native.Nat.{ℕ, ◌+◌, ◌-◌, ◌≤◌, ◌<◌}
 use native.Mathlib.Omega.{arith}
 use mathlib.Core.Path.{◌≡◌, refl, sym, ap, subst, ◌∙◌}
@@ -10,12 +11,10 @@ use Rattle.text.specs.Pattern.{bytes}
 use Rattle.text.proofs.BytesLaws.{rest}
 use Rattle.anchor.specs.Anchor.{slug, anchor_from, CursorWithin, NextByte}
 use Rattle.anchor.specs.declared.AnchorCursor.{AnchorCursor}
-use Rattle.anchor.specs.declared.AnchorByte.TheVariants.{Byte, End}
 use Rattle.link.specs.Target.{trim_slashes, outside}
 use Rattle.put.specs.Put.{source_text, part_of, Able, Written, Wrote}
 use Rattle.put.specs.declared.Source.{Source}
 use Rattle.put.specs.declared.Room.{Room}
-use Rattle.put.specs.declared.Put.{Put}
 use Rattle.put.proofs.PutLaws.{Reached, room_at, reached_start, reached_next, reached_over, reached_last, reached_end, source-length, source-same, part_same, able_on}
 
 -- a text put behind another
@@ -26,7 +25,7 @@ module _ {room : Room} (a b w : List ℕ) (below : room.at ≤ room.limit) where
   pub first_over : room.limit < room.at + length a → room.limit < room.at + length (a ++ b)
   first_over h = reached_over before a b refl h
 
-  pub second-put : (v : List ℕ) (n : ℕ) → Written room a w v n → (u : List ℕ) (r : Put) → Wrote (room_at room n) b v u r → Wrote room (a ++ b) w u r
+  pub second-put : (v : List ℕ) (n : ℕ) → Written room a w v n → (u : List ℕ) (r : Option ℕ) → Wrote (room_at room n) b v u r → Wrote room (a ++ b) w u r
   second-put v n h u r k = reached_last (reached_next before a b refl v n h) u r k
 
 -- the anchor of a title is put up to byte b, and cursor d has the rest left
@@ -52,13 +51,13 @@ module _ {title : Source} {room : Room} {c w : List ℕ} (able : Able title room
       pub anchor_within : CursorWithin d (source_text title c (set v at b))
       anchor_within = subst (λ (t : List ℕ). CursorWithin d t) (sym same) p.within
 
-      pub anchor_end : NextByte (source_text title c (set v at b)) d End → Written room (0x23 ∷ slug (source_text title c w)) w (set v at b) (at + 1)
+      pub anchor_end : NextByte (source_text title c (set v at b)) d None → Written room (0x23 ∷ slug (source_text title c w)) w (set v at b) (at + 1)
       anchor_end h =
-          reached_end (subst (λ (x : List ℕ). Reached room (0x23 ∷ slug (source_text title c w)) w (set v at b) (at + 1) x) (subst (λ (t : List ℕ). NextByte t d End) same h) anchor_byte)
+          reached_end (subst (λ (x : List ℕ). Reached room (0x23 ∷ slug (source_text title c w)) w (set v at b) (at + 1) x) (subst (λ (t : List ℕ). NextByte t d None) same h) anchor_byte)
 
-      module _ (x : ℕ) (e : AnchorCursor) (h : NextByte (source_text title c (set v at b)) d (Byte x e)) where
-        next : NextByte (source_text title c w) d (Byte x e)
-        next = subst (λ (t : List ℕ). NextByte t d (Byte x e)) same h
+      module _ (x : ℕ) (e : AnchorCursor) (h : NextByte (source_text title c (set v at b)) d (Some (x, e))) where
+        next : NextByte (source_text title c w) d (Some (x, e))
+        next = subst (λ (t : List ℕ). NextByte t d (Some (x, e))) same h
 
         pub anchor_less : (d.at < e.at) × (e.at ≤ title.end - title.start)
         anchor_less = (next.1.0, omega (arith, source-length able, next.1.1))
@@ -123,7 +122,7 @@ module _ {target : Source} {room : Room} {c w : List ℕ} (able : Able target ro
       pub path_able : Able target (room_at room m) c u
       path_able = able_on able pathed
 
-      pub fragment_put : (x : List ℕ) (r : Put) → Wrote (room_at room m) (part e (target.end - target.start) (source_text target c u)) u x r → Wrote room whole w x r
+      pub fragment_put : (x : List ℕ) (r : Option ℕ) → Wrote (room_at room m) (part e (target.end - target.start) (source_text target c u)) u x r → Wrote room whole w x r
       fragment_put x r h =
           let t : part e (target.end - target.start) (source_text target c u) ≡ drop e (source_text target c w) =
           rw (source-same able pathed) (fragment_is able e) in

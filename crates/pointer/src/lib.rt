@@ -8,12 +8,11 @@ ghost use Rattle.path.specs.Path.{resolve};
 ghost use Rattle.link.specs.Target.{trim_slashes, outside};
 ghost use Rattle.put.specs.Put.{source_text, Able, Wrote};
 
-use anchor::AnchorByte;
 use link::target;
-use put::{Put, Room, Source};
+use put::{Room, Source};
 
 // `#` and the anchor of a title.
-pub fn put_anchor(contents: &[u8], title: Source, room: Room, work: &mut [u8]) -> Put
+pub fn put_anchor(contents: &[u8], title: Source, room: Room, work: &mut [u8]) -> Option<usize>
     requires { Able title room contents.now work.old }
     ensures { Wrote room (0x23 ∷ slug (source_text title contents.now work.old)) work.old work.new result }
 {
@@ -23,12 +22,12 @@ pub fn put_anchor(contents: &[u8], title: Source, room: Room, work: &mut [u8]) -
     let mut c = sources::anchor_in(contents, work, title);
     loop {
         if at == limit {
-            return Put::Over;
+            return None;
         }
         work[at] = b;
         at += 1;
-        let AnchorByte::Byte(next, behind) = sources::byte_in(contents, work, title, c) else {
-            return Put::To(at);
+        let Some((next, behind)) = sources::byte_in(contents, work, title, c) else {
+            return Some(at);
         };
         b = next;
         c = behind;
@@ -36,36 +35,36 @@ pub fn put_anchor(contents: &[u8], title: Source, room: Room, work: &mut [u8]) -
 }
 
 // The repository's URL up to the path.
-fn put_root(url: &[u8], room: Room, work: &mut [u8]) -> Put
+fn put_root(url: &[u8], room: Room, work: &mut [u8]) -> Option<usize>
     requires { (room.at ≤ room.limit) × (room.limit ≤ length work.old) }
     ensures { Wrote room (trim_slashes url.now ++ bytes "/blob/main/") work.old work.new result }
 {
     let limit = room.limit;
     let n = target::url_length(url);
-    let Put::To(at) = put::put_bytes(&url[..n], room, work) else {
-        return Put::Over;
+    let Some(at) = put::put_bytes(&url[..n], room, work) else {
+        return None;
     };
     put::put_bytes(b"/blob/main/", Room { at, limit }, work)
 }
 
 // A path in a directory, once it is resolved, however long it is.
-fn put_path(contents: &[u8], path: Source, dir: &[u8], room: Room, work: &mut [u8]) -> Put
+fn put_path(contents: &[u8], path: Source, dir: &[u8], room: Room, work: &mut [u8]) -> Option<usize>
     requires { Able path room contents.now work.old }
     ensures { Wrote room (resolve dir.now (source_text path contents.now work.old)) work.old work.new result }
 {
     let n = sources::length_in(contents, work, path, dir);
     if room.limit - room.at < n {
-        return Put::Over;
+        return None;
     }
     let end = room.at + n;
     let a = path.start;
     let e = path.end;
     if path.work {
         resolve::put_resolved_down(work, a, e, dir, end);
-        return Put::To(end);
+        return Some(end);
     }
     resolve::put_resolved(&contents[a..e], dir, end, work);
-    Put::To(end)
+    Some(end)
 }
 
 // A path that names no member, resolved, at the repository, and its fragment behind it: the target's bytes from a place on.
@@ -77,17 +76,17 @@ pub fn put_outside(
     e: usize,
     room: Room,
     work: &mut [u8],
-) -> Put
+) -> Option<usize>
     requires { Able target room contents.now work.old × (e ≤ target.end - target.start) }
     ensures { Wrote room (outside url.now resolved.now ++ drop e (source_text target contents.now work.old)) work.old work.new result }
 {
     let limit = room.limit;
     let n = target.end - target.start;
-    let Put::To(at) = put_root(url, room, work) else {
-        return Put::Over;
+    let Some(at) = put_root(url, room, work) else {
+        return None;
     };
-    let Put::To(m) = put::put_bytes(resolved, Room { at, limit }, work) else {
-        return Put::Over;
+    let Some(m) = put::put_bytes(resolved, Room { at, limit }, work) else {
+        return None;
     };
     put::put_part(contents, target, e, n, Room { at: m, limit }, work)
 }
@@ -101,18 +100,18 @@ pub fn put_far(
     dir: &[u8],
     room: Room,
     work: &mut [u8],
-) -> Put
+) -> Option<usize>
     requires { Able target room contents.now work.old × (e ≤ target.end - target.start) }
     ensures { Wrote room (outside url.now (resolve dir.now (take e (source_text target contents.now work.old))) ++ drop e (source_text target contents.now work.old)) work.old work.new result }
 {
     let limit = room.limit;
     let n = target.end - target.start;
-    let Put::To(at) = put_root(url, room, work) else {
-        return Put::Over;
+    let Some(at) = put_root(url, room, work) else {
+        return None;
     };
     let path = put::part_of(target, 0, e);
-    let Put::To(m) = put_path(contents, path, dir, Room { at, limit }, work) else {
-        return Put::Over;
+    let Some(m) = put_path(contents, path, dir, Room { at, limit }, work) else {
+        return None;
     };
     put::put_part(contents, target, e, n, Room { at: m, limit }, work)
 }

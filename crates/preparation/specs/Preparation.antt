@@ -1,12 +1,10 @@
 -- Members that are prepared, for the functions. Nothing here is document 01's: functions promise it, and the laws of `proofs/` tie it to the walk.
-use Rattle.std.specs.Prelude.{ℕ, ◌≤◌, ◌<◌, ◌≡◌, List}
+use Rattle.std.specs.Prelude.{ℕ, ◌≤◌, ◌<◌, ◌≡◌, List, Result, Ok, Err}
 use Rattle.walk.specs.Steps.{failed}
 use Rattle.put.specs.Put.{Inside}
 use Rattle.members.specs.Members.{member_at, files_from, AllKnown}
 use Rattle.members.specs.declared.Member.{Member}
 use Rattle.assembled.specs.Assemble.{prepare_all}
-use Rattle.preparation.specs.declared.Ready.{Ready}
-use Rattle.preparation.specs.declared.Ready.TheVariants.{All, Refused as Stopped}
 
 -- the texts of n members lie in contents and a work buffer of so many bytes
 pub record CanPrepare (contents work : ℕ) (set : List ℕ) (n : ℕ) : Type 0 where
@@ -24,6 +22,6 @@ pub record ArePrepared (contents work old new : List ℕ) (n : ℕ) : Type 0 whe
   pub same : (i : ℕ) → i < n → SameFile (member_at old i) (member_at new i)
   pub known : AllKnown contents work new n
 
-abbrev pub ReadyOf : List ℕ → List ℕ → List ℕ → List ℕ → ℕ → Ready → Type 0
-ReadyOf contents work old new n All = ArePrepared contents work old new n
-ReadyOf contents work old new n (Stopped x) = (index : List ℕ) → prepare_all (files_from index contents work old 0 n) ≡ failed x
+abbrev pub ReadyOf : List ℕ → List ℕ → List ℕ → List ℕ → ℕ → Result (Unit {0}) Refusal → Type 0
+ReadyOf contents work old new n (Ok tt) = ArePrepared contents work old new n
+ReadyOf contents work old new n (Err x) = (index : List ℕ) → prepare_all (files_from index contents work old 0 n) ≡ failed x

@@ -6,16 +6,8 @@ ghost use Rattle.preparation.specs.Preparation.{CanPrepare, ReadyOf};
 
 use answer::Refusal;
 use members::Member;
-use outline::Outlined;
 
 mod read;
-
-// All members are prepared, or 18 at the first that has no title.
-#[derive(Clone, Copy)]
-pub enum Ready {
-    All,
-    Refused(Refusal),
-}
 
 // Does nothing: that an array has all its elements is known of a value, and not behind a reference.
 fn whole(set: [usize; 704])
@@ -23,7 +15,12 @@ fn whole(set: [usize; 704])
 {}
 
 // Prepares all members.
-pub fn prepare_all(contents: &[u8], work: &[u8], set: &mut [usize; 704], count: usize) -> Ready
+pub fn prepare_all(
+    contents: &[u8],
+    work: &[u8],
+    set: &mut [usize; 704],
+    count: usize,
+) -> Result<(), Refusal>
     requires { CanPrepare (length contents.now) (length work.now) set.old count }
     ensures { ReadyOf contents.now work.now set.old set.new count result }
 {
@@ -33,8 +30,8 @@ pub fn prepare_all(contents: &[u8], work: &[u8], set: &mut [usize; 704], count: 
         let m = members::member_at(set, i);
         let source = m.source;
         let file = m.file;
-        let Outlined::Titled(outline) = read::prepare_in(contents, work, source) else {
-            return Ready::Refused(Refusal::NoTitle(file));
+        let Some(outline) = read::prepare_in(contents, work, source) else {
+            return Err(Refusal::NoTitle(file));
         };
         let name = m.name;
         let prepared = Member {
@@ -46,5 +43,5 @@ pub fn prepare_all(contents: &[u8], work: &[u8], set: &mut [usize; 704], count: 
         members::put_member(set, i, prepared);
         i += 1;
     }
-    Ready::All
+    Ok(())
 }

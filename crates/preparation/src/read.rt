@@ -3,11 +3,10 @@ ghost use Rattle.std.specs.Prelude.{length};
 ghost use Rattle.put.specs.Put.{source_text, Inside};
 ghost use Rattle.outline.specs.Outline.{FoundOutline};
 
-use outline::Outlined;
 use put::Source;
 
 // What is known of a member's text once it is prepared.
-pub fn prepare_in(contents: &[u8], work: &[u8], source: Source) -> Outlined
+pub fn prepare_in(contents: &[u8], work: &[u8], source: Source) -> Option<Outline>
     requires { Inside source 0 (length contents.now) (length work.now) }
     ensures { FoundOutline (source_text source contents.now work.now) result }
 {

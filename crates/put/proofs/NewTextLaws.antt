@@ -1,4 +1,5 @@
 -- Laws of what a line becomes: its level and its text, and its links, since a heading's hashes and space start none. Assumes nothing.
+use Rattle.std.specs.Prelude.{Option, Some, None}
 use Prim.Native.Nat.{ℕ, zero, suc, ◌-◌, ◌≤◌}
 use native.Mathlib.Omega.{arith}
 use mathlib.Core.Path.{◌≡◌, refl, ap}
@@ -10,8 +11,6 @@ use Rattle.text.specs.Pattern.{starts_with}
 use Rattle.fence.specs.declared.Fence.{Fence}
 use Rattle.heading.specs.Level.{moved_to, heading_line}
 use Rattle.heading.specs.Walk.{step_kind}
-use Rattle.heading.specs.declared.level.Moved.{Moved}
-use Rattle.heading.specs.declared.level.Moved.TheVariants.{To, Past}
 use Rattle.heading.specs.declared.walk.LineKind.{LineKind}
 use Rattle.heading.specs.declared.walk.LineKind.TheVariants.{Quoted, Heading, Other}
 use Rattle.heading.proofs.WalkLaws.{kind-within}
@@ -41,7 +40,7 @@ pub text_in : (z : ℤ) (a e : ℕ) (k : LineKind) → KindIn (e - a) k → a �
 text_in z a e Quoted w h = (omega arith, (omega arith, (h, omega arith)))
 text_in z a e (Heading n p q) w h = go (moved_to (pos n +ℤ z)) refl
   where
-    go : (m : Moved) → moved_to (pos n +ℤ z) ≡ m → TextIn a e (new_text_at m a e p q)
-    go (To m) y = ((moved_level (pos n +ℤ z) m y).1, (omega arith, (omega (arith, w), omega (arith, w))))
-    go Past y = (omega arith, (omega arith, (h, omega arith)))
+    go : (m : Option ℕ) → moved_to (pos n +ℤ z) ≡ m → TextIn a e (new_text_at m a e p q)
+    go (Some m) y = ((moved_level (pos n +ℤ z) m y).1, (omega arith, (omega (arith, w), omega (arith, w))))
+    go None y = (omega arith, (omega arith, (h, omega arith)))
 text_in z a e Other w h = (omega arith, (omega arith, (h, omega arith)))

@@ -1,4 +1,5 @@
 -- Laws of what is put at a place of a buffer, piece after piece, and of a source that is read meanwhile. Assumes nothing.
+use Rattle.std.specs.Prelude.{Option, Some, None}
 use Prim.Native.Nat.{ℕ, suc, ◌+◌, ◌-◌, ◌≤◌, ◌<◌}
 use native.Mathlib.Omega.{arith}
 use mathlib.Core.Path.{◌≡◌, refl, sym, ap, ◌∙◌}
@@ -14,8 +15,6 @@ use Rattle.heading.specs.Level.{heading_line}
 use Rattle.put.specs.Put.{source_text, Held, Inside, part_of, Able, Written, Wrote}
 use Rattle.put.specs.declared.Source.{Source}
 use Rattle.put.specs.declared.Room.{Room}
-use Rattle.put.specs.declared.Put.{Put}
-use Rattle.put.specs.declared.Put.TheVariants.{To, Over}
 
 -- what stands behind the bytes put stays
 drop_behind : (x w : List ℕ) (at n : ℕ) → at + length x ≤ n → drop n (sets w at x) ≡ drop n w
@@ -67,9 +66,9 @@ pub reached_end : {room : Room} {x w v : List ℕ} {at : ℕ} → Reached room x
 reached_end {room} {x} {w} p = let e : p.made ≡ x = sym (append-nil p.made) ∙ p.whole in
     record { place = omega (arith, p.place, ap length e); below = p.below; wrote = p.wrote ∙ ap (sets w room.at) e }
 
-pub reached_last : {room : Room} {x w v : List ℕ} {at : ℕ} {y : List ℕ} → Reached room x w v at y → (u : List ℕ) (r : Put) → Wrote (room_at room at) y v u r → Wrote room x w u r
-reached_last {y = y} p u (To n) h = reached_end (reached_next p y [] (sym (append-nil y)) u n h)
-reached_last {y = y} p u Over h = reached_over p y [] (sym (append-nil y)) h
+pub reached_last : {room : Room} {x w v : List ℕ} {at : ℕ} {y : List ℕ} → Reached room x w v at y → (u : List ℕ) (r : Option ℕ) → Wrote (room_at room at) y v u r → Wrote room x w u r
+reached_last {y = y} p u (Some n) h = reached_end (reached_next p y [] (sym (append-nil y)) u n h)
+reached_last {y = y} p u None h = reached_over p y [] (sym (append-nil y)) h
 
 -- a source by the buffer that holds it
 held_length : (b : Bool) (a e limit : ℕ) (c w : List ℕ) → Held b a e limit (length c) (length w) → length (part a e (cond b w c)) ≡ e - a

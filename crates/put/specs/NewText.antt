@@ -1,16 +1,14 @@
 -- What a line becomes under a shift, by places. Nothing here is document 01's: inner functions promise it.
-use Rattle.std.specs.Prelude.{ℕ, ◌+◌, ◌≤◌, ℤ, pos, ◌+ℤ◌}
+use Rattle.std.specs.Prelude.{ℕ, ◌+◌, ◌≤◌, ℤ, pos, ◌+ℤ◌, Option, Some, None}
 use Rattle.heading.specs.Level.{moved_to}
-use Rattle.heading.specs.declared.level.Moved.{Moved}
-use Rattle.heading.specs.declared.level.Moved.TheVariants.{To, Past}
 use Rattle.heading.specs.declared.walk.LineKind.{LineKind}
 use Rattle.heading.specs.declared.walk.LineKind.TheVariants.{Quoted, Heading, Other}
 use Rattle.put.specs.declared.line.NewText.{NewText}
 
 -- what a line of the kind k that stands from a up to e becomes under a shift: the level of a heading, or 0, and where its text stands
-abbrev pub new_text_at : Moved → ℕ → ℕ → ℕ → ℕ → NewText
-new_text_at (To n) a e p q = record { level = n; start = a + p; end = a + q }
-new_text_at Past a e p q = record { level = 0; start = a; end = e }
+abbrev pub new_text_at : Option ℕ → ℕ → ℕ → ℕ → ℕ → NewText
+new_text_at (Some n) a e p q = record { level = n; start = a + p; end = a + q }
+new_text_at None a e p q = record { level = 0; start = a; end = e }
 
 abbrev pub new_text_of : ℤ → ℕ → ℕ → LineKind → NewText
 new_text_of z a e Quoted = record { level = 0; start = a; end = e }

@@ -1,11 +1,9 @@
 -- What is put at a place of the work buffer, and a text that is read meanwhile. Nothing here is document 01's: inner functions promise it.
-use Rattle.std.specs.Prelude.{ℕ, ◌+◌, ◌≤◌, ◌<◌, ◌≡◌, Bool, true, false, cond, List, length}
+use Rattle.std.specs.Prelude.{ℕ, ◌+◌, ◌≤◌, ◌<◌, ◌≡◌, Bool, true, false, cond, List, length, Option, Some, None}
 use Rattle.std.proofs.lemmas.List.Edits.{sets}
 use Rattle.text.specs.Bytes.{part}
 use Rattle.put.specs.declared.Source.{Source}
 use Rattle.put.specs.declared.Room.{Room}
-use Rattle.put.specs.declared.Put.{Put}
-use Rattle.put.specs.declared.Put.TheVariants.{To, Over}
 
 -- the bytes of a source
 abbrev pub source_text : Source → List ℕ → List ℕ → List ℕ
@@ -35,6 +33,6 @@ pub record Written (room : Room) (x w v : List ℕ) (n : ℕ) : Type 0 where
   pub below : n ≤ room.limit
   pub wrote : v ≡ sets w room.at x
 
-abbrev pub Wrote : Room → List ℕ → List ℕ → List ℕ → Put → Type 0
-Wrote room x w v (To n) = Written room x w v n
-Wrote room x w v Over = room.limit < room.at + length x
+abbrev pub Wrote : Room → List ℕ → List ℕ → List ℕ → Option ℕ → Type 0
+Wrote room x w v (Some n) = Written room x w v n
+Wrote room x w v None = room.limit < room.at + length x

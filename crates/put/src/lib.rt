@@ -25,13 +25,6 @@ pub struct Room {
     pub limit: usize,
 }
 
-// The place after what was put, or that it went over the limit.
-#[derive(Clone, Copy)]
-pub enum Put {
-    To(usize),
-    Over,
-}
-
 // A part of a source.
 pub fn part_of(source: Source, a: usize, e: usize) -> Source
     requires { (a ≤ e) × (source.start + e ≤ source.end) }
@@ -45,14 +38,14 @@ pub fn part_of(source: Source, a: usize, e: usize) -> Source
 }
 
 // A text that lies in neither buffer.
-pub fn put_bytes(text: &[u8], room: Room, work: &mut [u8]) -> Put
+pub fn put_bytes(text: &[u8], room: Room, work: &mut [u8]) -> Option<usize>
     requires { (room.at ≤ room.limit) × (room.limit ≤ length work.old) }
     ensures { Wrote room text.now work.old work.new result }
 {
     if room.limit - room.at < text.len() {
-        return Put::Over;
+        return None;
     }
-    Put::To(buffer::copy(text, work, room.at))
+    Some(buffer::copy(text, work, room.at))
 }
 
 // A part of a source as it is.
@@ -63,28 +56,28 @@ pub fn put_part(
     e: usize,
     room: Room,
     work: &mut [u8],
-) -> Put
+) -> Option<usize>
     requires { Able source room contents.now work.old × ((a ≤ e) × (source.start + e ≤ source.end)) }
     ensures { Wrote room (part a e (source_text source contents.now work.old)) work.old work.new result }
 {
     if room.limit - room.at < e - a {
-        return Put::Over;
+        return None;
     }
     let from = source.start + a;
     let to = source.start + e;
     if source.work {
-        return Put::To(buffer::copy_down(work, from, to, room.at));
+        return Some(buffer::copy_down(work, from, to, room.at));
     }
-    Put::To(buffer::copy(&contents[from..to], work, room.at))
+    Some(buffer::copy(&contents[from..to], work, room.at))
 }
 
 // A heading's hashes and the space behind them.
-pub fn put_hashes(level: usize, room: Room, work: &mut [u8]) -> Put
+pub fn put_hashes(level: usize, room: Room, work: &mut [u8]) -> Option<usize>
     requires { (level ≤ 6) × ((room.at ≤ room.limit) × (room.limit ≤ length work.old)) }
     ensures { Wrote room (heading_line level []) work.old work.new result }
 {
     if room.limit - room.at < level + 1 {
-        return Put::Over;
+        return None;
     }
-    Put::To(level::put_heading(work, room.at, level, b""))
+    Some(level::put_heading(work, room.at, level, b""))
 }

@@ -4,7 +4,6 @@ ghost use Rattle.std.specs.Int.Signed.{mag};
 ghost use Rattle.put.specs.NewText.{KindIn, new_text_of};
 
 use heading::level;
-use heading::level::Moved;
 use heading::walk::LineKind;
 
 // What a line becomes: a heading with a level, or with level 0 no heading; and where its text starts and ends.
@@ -34,11 +33,11 @@ pub fn new_text(kind: LineKind, shift: i32, a: usize, e: usize) -> NewText
         return same_text(a, e);
     };
     match level::shifted(level, shift) {
-        Moved::To(moved) => NewText {
+        Some(moved) => NewText {
             level: moved,
             start: a + start,
             end: a + end,
         },
-        Moved::Past => same_text(a, e),
+        None => same_text(a, e),
     }
 }

@@ -1,4 +1,5 @@
 -- Laws of a source's lines as they become, put piece after piece. Assumes nothing.
+use Rattle.std.specs.Prelude.{Option, Some, None}
 use Prim.Native.Nat.{ℕ, zero, suc, ◌+◌, ◌-◌, ◌≤◌, ◌<◌}
 use native.Mathlib.Omega.{arith}
 use mathlib.Core.Path.{◌≡◌, refl, ap, subst, ◌∙◌}
@@ -12,8 +13,6 @@ use Rattle.text.proofs.BytesLaws.{part_full}
 use Rattle.text.proofs.LineLaws.{before-end}
 use Rattle.heading.specs.Level.{moved_to}
 use Rattle.heading.specs.Walk.{step_kind, step_after, walk_begin}
-use Rattle.heading.specs.declared.level.Moved.{Moved}
-use Rattle.heading.specs.declared.level.Moved.TheVariants.{To, Past}
 use Rattle.heading.specs.declared.walk.LineKind.{LineKind}
 use Rattle.heading.specs.declared.walk.LineKind.TheVariants.{Quoted, Heading, Other}
 use Rattle.heading.specs.declared.walk.WalkState.{WalkState}
@@ -27,7 +26,6 @@ use Rattle.self_links.specs.Cuts.{linked_text}
 use Rattle.putting.specs.Lines.{linked_from, linked_lines, start_of, FoundLine}
 use Rattle.put.specs.declared.Source.{Source}
 use Rattle.put.specs.declared.Room.{Room}
-use Rattle.put.specs.declared.Put.{Put}
 use Rattle.putting.specs.declared.line.LineStep.{LineStep}
 use Rattle.put.specs.declared.line.NewText.{NewText}
 use Rattle.text.proofs.PartLaws.{part-part}
@@ -43,10 +41,10 @@ module _ (f : List ℕ → List ℕ) (z : ℤ) (s : List ℕ) (a e : ℕ) where
   text-becomes Quoted w h = refl
   text-becomes (Heading n p q) w h = go (moved_to (pos n +ℤ z)) refl
     where
-      go : (m : Moved) → moved_to (pos n +ℤ z) ≡ m → Becomes (new_text_at m a e p q) (at_level m (part p q (part a e s)) (part a e s))
-      go (To zero) y = absurd (omega (arith, moved_level (pos n +ℤ z) zero y))
-      go (To (suc m)) y = rw (part-part s a e p q (omega (arith, w))) (ap (λ (x : List ℕ). LF ∷ x) (heading-linked f (suc m) (part p q (part a e s))))
-      go Past y = refl
+      go : (m : Option ℕ) → moved_to (pos n +ℤ z) ≡ m → Becomes (new_text_at m a e p q) (at_level m (part p q (part a e s)) (part a e s))
+      go (Some zero) y = absurd (omega (arith, moved_level (pos n +ℤ z) zero y))
+      go (Some (suc m)) y = rw (part-part s a e p q (omega (arith, w))) (ap (λ (x : List ℕ). LF ∷ x) (heading-linked f (suc m) (part p q (part a e s))))
+      go None y = refl
   text-becomes Other w h = refl
 
 -- what stands before a line's text is put, and then its text
@@ -67,7 +65,7 @@ module _ {source : Source} {room : Room} {c w : List ℕ} (able : Able source ro
     pub text_able : Able (part_of source a e) (room_at room k) c v
     text_able = able_part (able_on able started) a e order within
 
-    pub text-put : (u : List ℕ) (r : Put) → Wrote (room_at room k) (linked_text host dir (source_text (part_of source a e) c v)) v u r → Wrote room whole w u r
+    pub text-put : (u : List ℕ) (r : Option ℕ) → Wrote (room_at room k) (linked_text host dir (source_text (part_of source a e) c v)) v u r → Wrote room whole w u r
     text-put u r t = reached_last started u r (rw (part_same able started a e within) at t)
 
 -- the lines before place a are put, and the walk's state there is st

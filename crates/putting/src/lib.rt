@@ -9,24 +9,24 @@ ghost use Rattle.self_links.specs.Cuts.{linked_text};
 ghost use Rattle.putting.specs.Lines.{start_of, linked_lines};
 
 use put::line::NewText;
-use put::{Put, Room, Source};
+use put::{Room, Source};
 
 pub mod line;
 mod read;
 
 // What stands before a line's text: an LF, and a heading's hashes and space.
-fn put_start(level: usize, room: Room, work: &mut [u8]) -> Put
+fn put_start(level: usize, room: Room, work: &mut [u8]) -> Option<usize>
     requires { (level ≤ 6) × ((room.at ≤ room.limit) × (room.limit ≤ length work.old)) }
     ensures { Wrote room (start_of level) work.old work.new result }
 {
     let at = room.at;
     let limit = room.limit;
     if limit == at {
-        return Put::Over;
+        return None;
     }
     work[at] = b'\n';
     if level == 0 {
-        return Put::To(at + 1);
+        return Some(at + 1);
     }
     put::put_hashes(level, Room { at: at + 1, limit }, work)
 }
@@ -40,13 +40,13 @@ fn put_line(
     host: &[u8],
     room: Room,
     work: &mut [u8],
-) -> Put
+) -> Option<usize>
     requires { Able source room contents.now work.old × ((new.level ≤ 6) × ((new.start ≤ new.end) × (source.start + new.end ≤ source.end))) }
     ensures { Wrote room (start_of new.level ++ linked_text host.now dir.now (part new.start new.end (source_text source contents.now work.old))) work.old work.new result }
 {
     let limit = room.limit;
-    let Put::To(at) = put_start(new.level, room, work) else {
-        return Put::Over;
+    let Some(at) = put_start(new.level, room, work) else {
+        return None;
     };
     let text = put::part_of(source, new.start, new.end);
     self_links::put_cuts(contents, text, dir, host, Room { at, limit }, work)
@@ -61,7 +61,7 @@ pub fn put_lines(
     host: &[u8],
     room: Room,
     work: &mut [u8],
-) -> Put
+) -> Option<usize>
     requires { Able source room contents.now work.old × (mag shift ≤ 7) }
     ensures { Wrote room (linked_lines host.now dir.now shift (source_text source contents.now work.old)) work.old work.new result }
 {
@@ -72,11 +72,11 @@ pub fn put_lines(
     loop {
         let w = read::line_in(contents, work, source, a, state, shift);
         let new = w.text;
-        let Put::To(n) = put_line(contents, source, new, dir, host, Room { at, limit }, work) else {
-            return Put::Over;
+        let Some(n) = put_line(contents, source, new, dir, host, Room { at, limit }, work) else {
+            return None;
         };
         if w.last {
-            return Put::To(n);
+            return Some(n);
         }
         at = n;
         a = w.end + 1;

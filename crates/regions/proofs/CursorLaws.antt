@@ -1,4 +1,5 @@
 -- Cursors: the regions that are left behind one, where it stands, and the lines between a cursor and the next region. Assumes nothing.
+use Rattle.std.specs.Prelude.{Option, Some, None}
 use Prim.Native.Nat.{ℕ, zero, suc, ◌+◌, ◌-◌, ◌≤◌, ◌<◌}
 use native.Mathlib.Omega.{arith}
 use mathlib.Core.Path.{◌≡◌, refl, sym, ap, ◌∙◌}
@@ -23,8 +24,6 @@ use Rattle.scan.specs.Scan.{is_open, closed_by, events_of, after, kind_at, scan_
 use Rattle.scan.specs.Regions.{regions_from}
 use Rattle.scan.specs.declared.event.Region.{Region}
 use Rattle.scan.specs.declared.region.Cursor.{Cursor}
-use Rattle.scan.specs.declared.state.OpenRegion.{OpenRegion}
-use Rattle.scan.specs.declared.state.OpenRegion.TheVariants.{Closed, Open}
 use Rattle.scan.specs.declared.state.State.{State}
 use Rattle.scan.proofs.RegionLaws.{regions_append, line-none, last_none}
 use Rattle.regions.specs.Hosts.{LineFrom, blanked_at}
@@ -44,11 +43,11 @@ module _ (s : List ℕ) (n o : ℕ) where
   abbrev Rest : State → List Region
   Rest st = regions_of (scan_from st (n + 1) (lines_from (o + line_next (drop o s)) (drop (o + line_next (drop o s)) s)))
 
-  closed : (st : State) (r : OpenRegion) → st.fence ≡ false → is_open r ≡ true
-      → Behind s (regions_of (closed_by n o r) ++ Rest (record { fence = st.fence; region = Closed }))
+  closed : (st : State) (r : Option Opener) → st.fence ≡ false → is_open r ≡ true
+      → Behind s (regions_of (closed_by n o r) ++ Rest (record { fence = st.fence; region = None }))
   unfolding regions_of
-  closed st Closed f e = absurd (false≢true e)
-  closed st (Open g) f e = rw f
+  closed st None f e = absurd (false≢true e)
+  closed st (Some g) f e = rw f
 
   turned : ((st : State) → Behind s (Rest st)) → (l : List ℕ) (st : State) (kind : Kind) → kind ≡ kind_at st o l
       → Behind s (regions_of (events_of st n o l kind) ++ Rest (after st n o kind))
@@ -83,7 +82,7 @@ behind_fuel (suc f) s n o st h =
 
 pub regions_behind : (s : List ℕ) (c : Cursor) {g : Region} {gs : List Region} → regions_from s c ≡ g ∷ gs → gs ≡ regions_from s (cursor_behind s g)
 regions_behind s c e =
-    let h : Behind s (regions_from s c) = behind_fuel (length s) s (c.line + 1) c.at (record { fence = false; region = Closed }) (omega arith) in
+    let h : Behind s (regions_from s c) = behind_fuel (length s) s (c.line + 1) c.at (record { fence = false; region = None }) (omega arith) in
     rw e at h
 
 -- a line that starts at place o has at most o lines before it

@@ -1,5 +1,6 @@
 -- The regions of a host: a cursor at its start and behind a region, the own level above a region and the shallowest of the host, and the host lines as
 -- bytes. Assumes nothing.
+use Rattle.std.specs.Prelude.{Option, Some, None}
 use Prim.Native.Nat.{ℕ, zero, suc, ◌+◌, ◌-◌, ◌≤◌, ◌<◌}
 use native.Mathlib.Nat.{sub-zero}
 use native.Mathlib.Omega.{arith}
@@ -23,8 +24,6 @@ use Rattle.scan.specs.declared.event.Region.{Region}
 use Rattle.scan.specs.declared.region.Cursor.{Cursor}
 use Rattle.heading.specs.Level.{shallowest_of, IsLevel}
 use Rattle.heading.specs.Walk.{walk_begin, step_after, kinds_from, states_after}
-use Rattle.heading.specs.declared.level.TopLevel.{TopLevel}
-use Rattle.heading.specs.declared.level.TopLevel.TheVariants.{Level, NoHeading}
 use Rattle.heading.specs.declared.walk.WalkState.{WalkState}
 use Rattle.heading.proofs.LevelLaws.{level-lines}
 use Rattle.heading.proofs.StillLaws.{kinds_append, states_append, shallowest_append, blanks-state}
@@ -72,18 +71,18 @@ kinds_first : (st : WalkState) (ls us : List (List ℕ)) (n : ℕ) → length ls
 kinds_first st ls us n e = rw (kinds_append st ls us) (take_at (kinds_from st ls) (kinds_from (states_after st ls) us) n (kinds_length st ls ∙ e))
 
 -- k lines blanked behind lines
-blanks-last : (b : TopLevel) (st : WalkState) (k : ℕ) → last_level b (kinds_from st (replicate k [])) ≡ b
+blanks-last : (b : Option ℕ) (st : WalkState) (k : ℕ) → last_level b (kinds_from st (replicate k [])) ≡ b
 unfolding last_level kinds_from
 blanks-last b st k = rw append-nil at (last-blanks k b st [])
 
 -- the last level of lines and lines after them
-last-lines : (st : WalkState) (b : TopLevel) (ls us : List (List ℕ))
+last-lines : (st : WalkState) (b : Option ℕ) (ls us : List (List ℕ))
     → last_level b (kinds_from st (ls ++ us)) ≡ last_level (last_level b (kinds_from st ls)) (kinds_from (states_after st ls) us)
 last-lines st b ls us = rw (kinds_append st ls us) (last-append b (kinds_from st ls) (kinds_from (states_after st ls) us))
 
 -- the walk at a cursor
 abbrev pub own_at : HostCursor → Own
-own_at c = record { state = c.state; above = c.above; top = NoHeading }
+own_at c = record { state = c.state; above = c.above; top = None }
 
 -- the closer behind which a cursor stands
 closer_starts : {s : List ℕ} {c : HostCursor} → CloserAt s c → Starts s (c.before + 1) (c.from + 1)
@@ -128,13 +127,13 @@ module _ {s : List ℕ} {c : HostCursor} (a : HostAt s c) where
   last-host e = record { lines = drop c.before (pieces s); append = append-rest; rest = λ k name. rw e }
 
 -- 12 as a test; and the target, which needs the shallowest level only where nothing is above
-faults_test : (peer : Bool) (t : TopLevel) (p : Place) → peer_faults peer t p ≡ cond (is_headless peer t) (PeerWithoutHeading p ∷ []) []
-faults_test peer (Level n) p = refl
-faults_test peer NoHeading p = refl
+faults_test : (peer : Bool) (t : Option ℕ) (p : Place) → peer_faults peer t p ≡ cond (is_headless peer t) (PeerWithoutHeading p ∷ []) []
+faults_test peer (Some n) p = refl
+faults_test peer None p = refl
 
-target-top : (peer : Bool) (t x y : TopLevel) → (t ≡ NoHeading → y ≡ x) → target_level peer t x ≡ target_level peer t y
-target-top peer (Level n) x y h = refl
-target-top peer NoHeading x y h = rw (h refl)
+target-top : (peer : Bool) (t x y : Option ℕ) → (t ≡ None → y ≡ x) → target_level peer t x ≡ target_level peer t y
+target-top peer (Some n) x y h = refl
+target-top peer None x y h = rw (h refl)
 
 -- the next region behind a cursor
 module _ {s : List ℕ} {c : HostCursor} (a : HostAt s c) {g : Region} {d : Cursor} {v : Own} (b : OwnBefore s (cursor_of c) (own_at c) g d v) where
@@ -153,21 +152,21 @@ module _ {s : List ℕ} {c : HostCursor} (a : HostAt s c) {g : Region} {d : Curs
   placed = next-placed a.line e
 
   -- the walk at the opener
-  v-is : v ≡ record { state = states_after c.state ls; above = last_level c.above (kinds_from c.state ls); top = shallowest_of NoHeading (kinds_from c.state ls) }
+  v-is : v ≡ record { state = states_after c.state ls; above = last_level c.above (kinds_from c.state ls); top = shallowest_of None (kinds_from c.state ls) }
   v-is = b.own ∙ own_is (own_at c) ls
 
   v-state : states_after walk_begin (a.passed ++ ls) ≡ v.state
   v-state = states_append walk_begin a.passed ls ∙ ap (λ (st : WalkState). states_after st ls) a.state ∙ ap (λ (w : Own). w.state) (sym v-is)
 
-  v_above : last_level NoHeading (kinds_from walk_begin (a.passed ++ ls)) ≡ v.above
+  v_above : last_level None (kinds_from walk_begin (a.passed ++ ls)) ≡ v.above
   v_above =
-      last-lines walk_begin NoHeading a.passed ls
-      ∙ ap (λ (t : TopLevel). last_level t (kinds_from (states_after walk_begin a.passed) ls)) a.above
+      last-lines walk_begin None a.passed ls
+      ∙ ap (λ (t : Option ℕ). last_level t (kinds_from (states_after walk_begin a.passed) ls)) a.above
       ∙ ap (λ (st : WalkState). last_level c.above (kinds_from st ls)) a.state
       ∙ ap (λ (w : Own). w.above) (sym v-is)
 
   pub v_level : IsLevel v.above
-  v_level = subst IsLevel v_above (level-last NoHeading walk_begin (a.passed ++ ls) tt)
+  v_level = subst IsLevel v_above (level-last None walk_begin (a.passed ++ ls) tt)
 
   -- the lines before it, and all of them
   lines-length : length (a.passed ++ ls) ≡ g.opener.line - 1
@@ -191,33 +190,33 @@ module _ {s : List ℕ} {c : HostCursor} (a : HostAt s c) {g : Region} {d : Curs
   -- the nearest own heading above it
   above-here : above g.opener.line (own_kinds (regions_of (scan s)) (pieces s)) ≡ v.above
   above-here =
-      ap (λ (bs : List (List ℕ)). last_level NoHeading (take (g.opener.line - 1) (kinds_from walk_begin bs))) lines-blanked
-      ∙ ap (last_level NoHeading) (kinds_first walk_begin (a.passed ++ ls) (replicate k [] ++ blanked_at s d) (g.opener.line - 1) lines-length)
+      ap (λ (bs : List (List ℕ)). last_level None (take (g.opener.line - 1) (kinds_from walk_begin bs))) lines-blanked
+      ∙ ap (last_level None) (kinds_first walk_begin (a.passed ++ ls) (replicate k [] ++ blanked_at s d) (g.opener.line - 1) lines-length)
       ∙ v_above
 
   -- with none above, none stands before the cursor
-  none_before : v.above ≡ NoHeading → c.above ≡ NoHeading
+  none_before : v.above ≡ None → c.above ≡ None
   none_before q = (last_nothing c.above (kinds_from c.state ls) (ap (λ (w : Own). w.above) (sym v-is) ∙ q)).0
 
   -- and the walk over the rest finds the shallowest own level
-  top-rest : v.above ≡ NoHeading → (own_after v (blanked_at s d)).top ≡ top_of s
+  top-rest : v.above ≡ None → (own_after v (blanked_at s d)).top ≡ top_of s
   top-rest q =
       let r : List (List ℕ) = blanked_at s (cursor_of c) in
-      let z : shallowest_of NoHeading (kinds_from walk_begin a.passed) ≡ NoHeading =
-      (last_nothing NoHeading (kinds_from walk_begin a.passed) (a.above ∙ none_before q)).1 in
+      let z : shallowest_of None (kinds_from walk_begin a.passed) ≡ None =
+      (last_nothing None (kinds_from walk_begin a.passed) (a.above ∙ none_before q)).1 in
       ap (λ (w : Own). w.top) ((own-next a.line b).1.1 ∙ own_is (own_at c) r)
       ∙ sym
-      (ap (λ (bs : List (List ℕ)). shallowest_of NoHeading (kinds_from walk_begin bs)) a.blanked
-      ∙ ap (shallowest_of NoHeading) (kinds_append walk_begin a.passed r)
-      ∙ shallowest_append NoHeading (kinds_from walk_begin a.passed) (kinds_from (states_after walk_begin a.passed) r)
-      ∙ ap (λ (t : TopLevel). shallowest_of t (kinds_from (states_after walk_begin a.passed) r)) z
-      ∙ ap (λ (st : WalkState). shallowest_of NoHeading (kinds_from st r)) a.state)
+      (ap (λ (bs : List (List ℕ)). shallowest_of None (kinds_from walk_begin bs)) a.blanked
+      ∙ ap (shallowest_of None) (kinds_append walk_begin a.passed r)
+      ∙ shallowest_append None (kinds_from walk_begin a.passed) (kinds_from (states_after walk_begin a.passed) r)
+      ∙ ap (λ (t : Option ℕ). shallowest_of t (kinds_from (states_after walk_begin a.passed) r)) z
+      ∙ ap (λ (st : WalkState). shallowest_of None (kinds_from st r)) a.state)
 
   -- so `top_of` can find it
   pub can_top : CanTop s c d v
   can_top =
       let r : List (List ℕ) = blanked_at s d in
-      let l : IsLevel v.top = rw v-is (level-lines NoHeading c.state ls tt) in
+      let l : IsLevel v.top = rw v-is (level-lines None c.state ls tt) in
       record {
         line = (own-next a.line b).0;
         kept = λ h. record { level = a.level; none = λ q. a.top h (none_before q) };
@@ -225,7 +224,7 @@ module _ {s : List ℕ} {c : HostCursor} (a : HostAt s c) {g : Region} {d : Curs
       }
 
   -- the cursor behind it
-  module _ {top : TopLevel} (t : IsTop s v.above top) where
+  module _ {top : Option ℕ} (t : IsTop s v.above top) where
     next-host-at : HostAt s (cursor_at g d v top)
     unfolding cursor_at
     next-host-at =
@@ -243,8 +242,8 @@ module _ {s : List ℕ} {c : HostCursor} (a : HostAt s c) {g : Region} {d : Curs
           count = omega (arith, length-append (a.passed ++ ls) (replicate k []), length-replicate {A = List ℕ} k [], lines-length, p.lines, p.later);
           blanked = lines-blanked ∙ sym (append_assoc (a.passed ++ ls) (replicate k []) (blanked_at s d));
           state = states_append walk_begin (a.passed ++ ls) (replicate k []) ∙ blanks-state k (states_after walk_begin (a.passed ++ ls)) ∙ v-state;
-          above = last-lines walk_begin NoHeading (a.passed ++ ls) (replicate k [])
-              ∙ blanks-last (last_level NoHeading (kinds_from walk_begin (a.passed ++ ls))) (states_after walk_begin (a.passed ++ ls)) k
+          above = last-lines walk_begin None (a.passed ++ ls) (replicate k [])
+              ∙ blanks-last (last_level None (kinds_from walk_begin (a.passed ++ ls))) (states_after walk_begin (a.passed ++ ls)) k
               ∙ v_above;
           level = t.level;
           top = λ q. t.none;

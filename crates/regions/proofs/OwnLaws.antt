@@ -1,4 +1,5 @@
 -- The walk over own lines: the last level of lines, and lines after them; blanked lines do not change it; levels are 1 to 6. Assumes nothing.
+use Rattle.std.specs.Prelude.{Option, Some, None}
 use Prim.Native.Nat.{ℕ}
 use native.Mathlib.Omega.{arith}
 use mathlib.Core.Path.{◌≡◌, refl, sym, ◌∙◌}
@@ -8,8 +9,6 @@ use Rattle.fence.specs.declared.Fence.{Fence}
 use Rattle.fence.specs.declared.Fence.TheVariants.{Outside, Ticks, Tildes}
 use Rattle.heading.specs.Walk.{step_kind, step_after, kinds_from, states_after, still_kind}
 use Rattle.heading.specs.Level.{shallower, shallowest_of, IsLevel}
-use Rattle.heading.specs.declared.level.TopLevel.{TopLevel}
-use Rattle.heading.specs.declared.level.TopLevel.TheVariants.{Level, NoHeading}
 use Rattle.heading.specs.declared.walk.LineKind.{LineKind}
 use Rattle.heading.specs.declared.walk.LineKind.TheVariants.{Quoted, Heading, Other}
 use Rattle.heading.specs.declared.walk.WalkState.{WalkState}
@@ -19,23 +18,23 @@ use Rattle.regions.specs.Regions.{newer, last_level}
 use Rattle.regions.specs.Own.{own_step, own_after}
 use Rattle.regions.specs.declared.own.Own.{Own}
 
-pub last-append : (b : TopLevel) (ks js : List LineKind) → last_level b (ks ++ js) ≡ last_level (last_level b ks) js
+pub last-append : (b : Option ℕ) (ks js : List LineKind) → last_level b (ks ++ js) ≡ last_level (last_level b ks) js
 unfolding last_level
 last-append b [] js = refl
 last-append b (k ∷ ks) js = last-append (newer b k) ks js
 
-still-newer : (f : Fence) (b : TopLevel) → newer b (still_kind f) ≡ b
+still-newer : (f : Fence) (b : Option ℕ) → newer b (still_kind f) ≡ b
 still-newer Outside b = refl
 still-newer Ticks b = refl
 still-newer Tildes b = refl
 
 -- n lines blanked, as a region is: the level above stays
-pub last-blanks : (n : ℕ) (b : TopLevel) (st : WalkState) (ls : List (List ℕ)) → last_level b (kinds_from st (replicate n [] ++ ls)) ≡ last_level b (kinds_from st ls)
+pub last-blanks : (n : ℕ) (b : Option ℕ) (st : WalkState) (ls : List (List ℕ)) → last_level b (kinds_from st (replicate n [] ++ ls)) ≡ last_level b (kinds_from st ls)
 unfolding last_level
 last-blanks n b st ls = gather_blanks newer last_level (λ c k ks. refl) still-newer n b st ls
 
 -- and so does the shallowest level
-pub shallowest_blanks : (n : ℕ) (b : TopLevel) (st : WalkState) (ls : List (List ℕ)) → shallowest_of b (kinds_from st (replicate n [] ++ ls)) ≡ shallowest_of b (kinds_from st ls)
+pub shallowest_blanks : (n : ℕ) (b : Option ℕ) (st : WalkState) (ls : List (List ℕ)) → shallowest_of b (kinds_from st (replicate n [] ++ ls)) ≡ shallowest_of b (kinds_from st ls)
 unfolding shallowest_of
 shallowest_blanks n b st ls = gather_blanks shallower shallowest_of (λ c k ks. refl) still-shallower n b st ls
 
@@ -68,25 +67,25 @@ unfolding own_after
 own-none w = refl
 
 -- the last level is one of 1 to 6
-level-newer : (b : TopLevel) (k : LineKind) → IsLevel b → IsLevel (shallower NoHeading k) → IsLevel (newer b k)
+level-newer : (b : Option ℕ) (k : LineKind) → IsLevel b → IsLevel (shallower None k) → IsLevel (newer b k)
 level-newer b Quoted h q = h
 level-newer b (Heading n a e) h q = q
 level-newer b Other h q = h
 
-pub level-last : (b : TopLevel) (st : WalkState) (ls : List (List ℕ)) → IsLevel b → IsLevel (last_level b (kinds_from st ls))
+pub level-last : (b : Option ℕ) (st : WalkState) (ls : List (List ℕ)) → IsLevel b → IsLevel (last_level b (kinds_from st ls))
 unfolding last_level kinds_from
 level-last b st [] h = h
 level-last b st (l ∷ ls) h =
     level-last (newer b (step_kind st.fence st.comment l)) (step_after st.fence st.comment l) ls
-    (level-newer b (step_kind st.fence st.comment l) h (level-step NoHeading st.fence st.comment l tt))
+    (level-newer b (step_kind st.fence st.comment l) h (level-step None st.fence st.comment l tt))
 
 -- where no heading stands, none is the last and none the shallowest
-pub last_nothing : (b : TopLevel) (ks : List LineKind) → last_level b ks ≡ NoHeading → (b ≡ NoHeading) × (shallowest_of NoHeading ks ≡ NoHeading)
+pub last_nothing : (b : Option ℕ) (ks : List LineKind) → last_level b ks ≡ None → (b ≡ None) × (shallowest_of None ks ≡ None)
 unfolding last_level shallowest_of
 last_nothing b [] h = (h, refl)
 last_nothing b (Quoted ∷ ks) h = last_nothing b ks h
 last_nothing b (Other ∷ ks) h = last_nothing b ks h
 last_nothing b (Heading n a e ∷ ks) h =
-    let q : Level n ≡ NoHeading = (last_nothing (Level n) ks h).0 in
+    let q : Some n ≡ None = (last_nothing (Some n) ks h).0 in
     let z : ◌≡◌ {A = ℕ} 0 1 = cc in
     absurd (omega arith)

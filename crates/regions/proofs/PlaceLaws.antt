@@ -1,4 +1,5 @@
 -- Where the lines of a text start, and the regions of a scan in the order of their lines and places. Assumes nothing.
+use Rattle.std.specs.Prelude.{Option, Some, None}
 use Prim.Native.Nat.{ℕ, zero, suc, ◌+◌, ◌-◌, ◌≤◌, ◌<◌}
 use native.Mathlib.Omega.{arith}
 use mathlib.Core.Path.{◌≡◌, refl, ap}
@@ -8,12 +9,11 @@ use lib.ListN.{length, take, drop, length-take, length-drop, drop_of_length-le}
 use lib.Seq.{drop-drop}
 use lib.Dec.{eqb, ltb}
 use borrow.Author.Tests.{eqb-false, ltb-true, ltb-false}
+use Rattle.marker.specs.declared.line.Fragment.{Fragment}
 use Rattle.text.specs.Bytes.{part, is, first}
 use Rattle.text.specs.Lines.{LF, pieces, lines_from, line_end, line_next}
 use Rattle.text.specs.Pattern.{bytes, starts_with, ends_with, equals, find, contains}
 use Rattle.text.specs.Space.{lead, kept, trim_start, trim_end, trim}
-use Rattle.text.specs.declared.pattern.Found.{Found}
-use Rattle.text.specs.declared.pattern.Found.TheVariants.{At, Nothing}
 use Rattle.text.proofs.BytesLaws.{first_le, part_length}
 use Rattle.text.proofs.SplitLaws.{split_step, split-some}
 use Rattle.text.proofs.LineLaws.{lines_at, line-next, line-last, line-within}
@@ -21,13 +21,9 @@ use Rattle.fence.specs.Fences.{is_fence}
 use Rattle.marker.specs.Marker.{OPEN, SPEC-END, CLOSE, OPEN-FRAGMENT, path_of, named_of, rest_of, alone_of, fragment_of, fragment_kind, marked_kind, kind_of}
 use Rattle.scan.specs.Scan.{is_open, closed_by, events_of, after, kind_at, begin, scan_from, regions_of}
 use Rattle.scan.specs.declared.event.Region.{Region}
-use Rattle.marker.specs.declared.line.Fragment.{Fragment}
-use Rattle.marker.specs.declared.line.Fragment.TheVariants.{Path, Other}
 use Rattle.marker.specs.declared.line.Kind.{Kind}
 use Rattle.marker.specs.declared.line.Kind.TheVariants.{Plain, Fence, Fault, Closes, Opens, Spans}
 use Rattle.scan.specs.declared.state.Opener.{Opener}
-use Rattle.scan.specs.declared.state.OpenRegion.{OpenRegion}
-use Rattle.scan.specs.declared.state.OpenRegion.TheVariants.{Closed, Open}
 use Rattle.scan.specs.declared.state.State.{State}
 use Rattle.scan.proofs.RegionLaws.{regions_append, line-none, last_none}
 
@@ -60,9 +56,9 @@ pub starts-within : {s : List ℕ} {n o : ℕ} → Starts s n o → n ≤ length
 starts-within {s} {n} {o} a = omega (arith, a.counted, split-some LF (drop o s), length-drop (n - 1) (pieces s), ap length a.lines)
 
 -- the path of an opener lies from place lo up to place hi
-abbrev InFragment : ℕ → ℕ → Fragment → Type 0
-InFragment lo hi (Path a e peer) = (lo ≤ a) × ((a < e) × (e ≤ hi))
-InFragment lo hi Other = Unit {0}
+abbrev InFragment : ℕ → ℕ → Option Fragment → Type 0
+InFragment lo hi (Some p) = (lo ≤ p.start) × ((p.start < p.end) × (p.end ≤ hi))
+InFragment lo hi None = Unit {0}
 
 abbrev pub InKind : ℕ → ℕ → Kind → Type 0
 InKind lo hi Plain = Unit {0}
@@ -72,15 +68,15 @@ InKind lo hi Closes = Unit {0}
 InKind lo hi (Opens a e peer) = (lo ≤ a) × ((a < e) × (e ≤ hi))
 InKind lo hi (Spans i) = Unit {0}
 
-wider : (lo hi a e : ℕ) (f : Fragment) → lo ≤ a → (a < e → e ≤ hi) → InFragment a e f → InFragment lo hi f
-wider lo hi a e (Path b d peer) h k q = let z : a < e = omega arith in let w = k z in omega arith
-wider lo hi a e Other h k q = tt
+wider : (lo hi a e : ℕ) (f : Option Fragment) → lo ≤ a → (a < e → e ≤ hi) → InFragment a e f → InFragment lo hi f
+wider lo hi a e (Some p) h k q = let z : a < e = omega arith in let w = k z in omega arith
+wider lo hi a e None h k q = tt
 
 in_path : (o : ℕ) (peer : Bool) (p : List ℕ) → InFragment o (o + length p) (path_of o peer p)
 unfolding path_of
 in_path o peer p = go (eqb (length p) 0) (contains SPEC-END p) (contains (bytes ":") p) refl
   where
-    go : (x y z : Bool) → eqb (length p) 0 ≡ x → InFragment o (o + length p) (cond (x || y || z) Other (Path o (o + length p) peer))
+    go : (x y z : Bool) → eqb (length p) 0 ≡ x → InFragment o (o + length p) (cond (x || y || z) None (Some (record { start = o; end = o + length p; peer = peer })))
     go true y z e = tt
     go false true z e = tt
     go false false true e = tt
@@ -100,7 +96,7 @@ in_rest : (o : ℕ) (x : List ℕ) → InFragment o (o + length x) (rest_of o x)
 unfolding rest_of
 in_rest o x = go (ends_with SPEC-END x)
   where
-    go : (b : Bool) → InFragment o (o + length x) (cond b (named_of o (take (length x - 4) x)) Other)
+    go : (b : Bool) → InFragment o (o + length x) (cond b (named_of o (take (length x - 4) x)) None)
     go true =
         wider o (o + length x) o (o + length (take (length x - 4) x)) (named_of o (take (length x - 4) x)) (omega arith)
         (λ z. omega (arith, length-take (length x - 4) x)) (in_named o (take (length x - 4) x))
@@ -111,7 +107,7 @@ in_alone : (o : ℕ) (t : List ℕ) → InFragment (o + 14) (o + length t) (alon
 unfolding alone_of
 in_alone o t = go (starts_with OPEN-FRAGMENT t)
   where
-    go : (b : Bool) → InFragment (o + 14) (o + length t) (cond b (rest_of (o + 14) (drop 14 t)) Other)
+    go : (b : Bool) → InFragment (o + 14) (o + length t) (cond b (rest_of (o + 14) (drop 14 t)) None)
     go true =
         wider (o + 14) (o + length t) (o + 14) ((o + 14) + length (drop 14 t)) (rest_of (o + 14) (drop 14 t)) (omega arith)
         (λ z. omega (arith, length-drop 14 t)) (in_rest (o + 14) (drop 14 t))
@@ -129,10 +125,10 @@ pub kind-path : (fence inside : Bool) (o : ℕ) (l : List ℕ) (hi : ℕ) → o 
 unfolding kind_of marked_kind fragment_kind
 kind-path fence inside o l hi h = by (is_fence l) (find OPEN l)
   where
-    go : (f : Fragment) (i : ℕ) (b : Bool) → InFragment (o + 14) (o + length l) f → InKind (o + 14) hi (fragment_kind b i l f)
-    go (Path a e peer) i true q = tt
-    go (Path a e peer) i false q = omega arith
-    go Other i b q = else (contains OPEN-FRAGMENT l)
+    go : (f : Option Fragment) (i : ℕ) (b : Bool) → InFragment (o + 14) (o + length l) f → InKind (o + 14) hi (fragment_kind b i l f)
+    go (Some p) i true q = tt
+    go (Some p) i false q = omega arith
+    go None i b q = else (contains OPEN-FRAGMENT l)
       where
         else : (x : Bool) → InKind (o + 14) hi (cond x (Fault 3) (Spans i))
         else true = tt
@@ -144,10 +140,10 @@ kind-path fence inside o l hi h = by (is_fence l) (find OPEN l)
     marked false true false k q = q
     marked false false c k q = q
 
-    by : (x : Bool) (f : Found) → InKind (o + 14) hi (cond x Fence (marked_kind fence inside o l f))
+    by : (x : Bool) (f : Option ℕ) → InKind (o + 14) hi (cond x Fence (marked_kind fence inside o l f))
     by true f = tt
-    by false (At i) = marked fence inside (equals CLOSE (trim l)) (fragment_kind inside i l (fragment_of o l)) (go (fragment_of o l) i inside (in_fragment o l))
-    by false Nothing = tt
+    by false (Some i) = marked fence inside (equals CLOSE (trim l)) (fragment_kind inside i l (fragment_of o l)) (go (fragment_of o l) i inside (in_fragment o l))
+    by false None = tt
 
 -- a region after line n, from place o on
 pub record Placed (s : List ℕ) (n o : ℕ) (g : Region) : Type 0 where
@@ -179,9 +175,9 @@ record Since (s : List ℕ) (m p n o : ℕ) (g : Opener) : Type 0 where
   place : g.marker.at < o
   path : (g.marker.at + 14 ≤ g.path.start) × ((g.path.start < g.path.end) × (g.path.end ≤ o))
 
-abbrev Opened : List ℕ → ℕ → ℕ → ℕ → ℕ → OpenRegion → Type 0
-Opened s m p n o Closed = Unit {0}
-Opened s m p n o (Open g) = Since s m p n o g
+abbrev Opened : List ℕ → ℕ → ℕ → ℕ → ℕ → Option Opener → Type 0
+Opened s m p n o None = Unit {0}
+Opened s m p n o (Some g) = Since s m p n o g
 
 -- one line of a scan: ih is for what follows
 module _ (s : List ℕ) (n o x : ℕ) (a : Starts s n o) (hx : o < x) where
@@ -192,18 +188,18 @@ module _ (s : List ℕ) (n o x : ℕ) (a : Starts s n o) (hx : o < x) where
   Onward = (st : State) (m p : ℕ) → m ≤ n → p ≤ x → Opened s m p (n + 1) x st.region → Ordered s m p (Rest (n + 1) x st)
 
   module _ (ih : Onward) (m p : ℕ) (hm : m < n) (hp : p ≤ o) where
-    still : (r : OpenRegion) → Opened s m p n o r → Opened s m p (n + 1) x r
-    still Closed q = tt
-    still (Open g) q =
+    still : (r : Option Opener) → Opened s m p n o r → Opened s m p (n + 1) x r
+    still None q = tt
+    still (Some g) q =
         record { opens = q.opens; later = q.later; from = q.from; line = omega arith; place = omega arith; path = omega arith }
 
-    closed : (f : Bool) (r : OpenRegion) → Opened s m p n o r
-        → Ordered s m p (regions_of (closed_by n o r) ++ Rest (n + 1) x (record { fence = f; region = Closed }))
+    closed : (f : Bool) (r : Option Opener) → Opened s m p n o r
+        → Ordered s m p (regions_of (closed_by n o r) ++ Rest (n + 1) x (record { fence = f; region = None }))
     unfolding regions_of Ordered
-    closed f Closed q = ih (record { fence = f; region = Closed }) m p (omega arith) (omega arith) tt
-    closed f (Open g) q = (
+    closed f None q = ih (record { fence = f; region = None }) m p (omega arith) (omega arith) tt
+    closed f (Some g) q = (
       record { opens = q.opens; closes = a; later = q.later; from = q.from; lines = q.line; places = q.place; path = q.path },
-      ih (record { fence = f; region = Closed }) n (suc o) (omega arith) (omega arith) tt,
+      ih (record { fence = f; region = None }) n (suc o) (omega arith) (omega arith) tt,
     )
 
     turned : (l : List ℕ) (st : State) (kind : Kind) → InKind (o + 14) x kind → Opened s m p n o st.region

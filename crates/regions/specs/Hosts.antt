@@ -1,6 +1,6 @@
 -- The regions of a host one after the other, as the functions of this crate give them. Nothing here is document 01's: callers read it, and the laws of
 -- `proofs/HostLaws.antt` tie it to `Regions.antt`.
-use Rattle.std.specs.Prelude.{ℕ, ◌+◌, ◌≤◌, ◌<◌, ◌≡◌, ◌⊎◌, cond, List, [], ◌∷◌, ◌++◌, length, drop}
+use Rattle.std.specs.Prelude.{ℕ, ◌+◌, ◌≤◌, ◌<◌, ◌≡◌, ◌⊎◌, cond, List, [], ◌∷◌, ◌++◌, length, drop, Option, Some, None}
 use Rattle.answer.specs.Answer.{place}
 use Rattle.answer.specs.declared.Refusal.TheVariants.{PeerWithoutHeading}
 use Rattle.text.specs.Bytes.{part}
@@ -11,18 +11,14 @@ use Rattle.scan.specs.Regions as found
 use Rattle.scan.specs.declared.region.Cursor.{Cursor}
 use Rattle.heading.specs.Level.{shallowest_of, IsLevel}
 use Rattle.heading.specs.Walk.{walk_begin, kinds_from, states_after}
-use Rattle.heading.specs.declared.level.TopLevel.{TopLevel}
-use Rattle.heading.specs.declared.level.TopLevel.TheVariants.{NoHeading}
 use Rattle.index.specs.Index.{File, file_of}
 use Rattle.regions.specs.Regions.{Regions, HostRegion, behind, region, regions_from, own_kinds, blanked_from, last_level}
 use Rattle.regions.specs.declared.host.HostCursor.{HostCursor}
 use Rattle.regions.specs.declared.host.Opening.{Opening}
-use Rattle.regions.specs.declared.host.NextHost.{NextHost}
-use Rattle.regions.specs.declared.host.NextHost.TheVariants.{Whole, NoMore}
 
 -- the cursor at a host's start
 abbrev pub start_cursor : HostCursor
-start_cursor = record { at = 0; line = 0; from = 0; before = 0; state = walk_begin; above = NoHeading; top = NoHeading }
+start_cursor = record { at = 0; line = 0; from = 0; before = 0; state = walk_begin; above = None; top = None }
 
 -- where a cursor stands, as for the scan
 abbrev pub cursor_of : HostCursor → Cursor
@@ -50,8 +46,8 @@ abbrev pub blanked_at : List ℕ → Cursor → List (List ℕ)
 blanked_at s c = blanked_from (c.line + 1) (found.regions_from s c) (drop c.line (pieces s))
 
 -- the shallowest own level of a host
-abbrev pub top_of : List ℕ → TopLevel
-top_of s = shallowest_of NoHeading (own_kinds (regions_of (scan s)) (pieces s))
+abbrev pub top_of : List ℕ → Option ℕ
+top_of s = shallowest_of None (own_kinds (regions_of (scan s)) (pieces s))
 
 -- where the closer behind which a cursor stands starts: after an LF
 pub record CloserAt (s : List ℕ) (c : HostCursor) : Type 0 where
@@ -69,9 +65,9 @@ pub record HostAt (s : List ℕ) (c : HostCursor) : Type 0 where
   pub count : length passed ≡ c.line
   pub blanked : blanked_from 1 (regions_of (scan s)) (pieces s) ≡ passed ++ blanked_at s (cursor_of c)
   pub state : states_after walk_begin passed ≡ c.state
-  pub above : last_level NoHeading (kinds_from walk_begin passed) ≡ c.above
+  pub above : last_level None (kinds_from walk_begin passed) ≡ c.above
   pub level : IsLevel c.top
-  pub top : 0 < c.from → c.above ≡ NoHeading → c.top ≡ top_of s
+  pub top : 0 < c.from → c.above ≡ None → c.top ≡ top_of s
 
 -- the region that an opening tells of, with the lines b before it
 abbrev pub region_at : ℕ → List ℕ → List ℕ → List (List ℕ) → Opening → HostRegion
@@ -104,6 +100,6 @@ pub record LastHost (s : List ℕ) (c : HostCursor) : Type 0 where
   pub rest : (k : ℕ) (name : List ℕ) → host_rest (file_of k name s) c ≡ behind lines
 
 -- either of them
-abbrev pub FoundHost : List ℕ → HostCursor → NextHost → Type 0
-FoundHost s c (Whole o d) = WholeHost s c o d
-FoundHost s c NoMore = LastHost s c
+abbrev pub FoundHost : List ℕ → HostCursor → Option (Opening × HostCursor) → Type 0
+FoundHost s c (Some (o, d)) = WholeHost s c o d
+FoundHost s c None = LastHost s c

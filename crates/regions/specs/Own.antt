@@ -1,5 +1,5 @@
 -- A host's own lines. Nothing here is document 01's: inner functions promise it, and the laws of `proofs/` tie it to `Regions.antt`.
-use Rattle.std.specs.Prelude.{ℕ, ◌+◌, ◌-◌, ◌<◌, ◌≡◌, Bool, false, List, [], ◌∷◌, take, drop}
+use Rattle.std.specs.Prelude.{ℕ, ◌+◌, ◌-◌, ◌<◌, ◌≡◌, Bool, false, List, [], ◌∷◌, take, drop, Option, Some, None}
 use Rattle.text.specs.Bytes.{is, first}
 use Rattle.text.specs.Lines.{LF, pieces, line_next}
 use Rattle.scan.specs.Regions.{regions_from}
@@ -7,13 +7,9 @@ use Rattle.scan.specs.declared.event.Region.{Region}
 use Rattle.scan.specs.declared.region.Cursor.{Cursor}
 use Rattle.heading.specs.Level.{shallower, IsLevel}
 use Rattle.heading.specs.Walk.{step_kind, step_after}
-use Rattle.heading.specs.declared.level.TopLevel.{TopLevel}
-use Rattle.heading.specs.declared.level.TopLevel.TheVariants.{Level, NoHeading}
 use Rattle.regions.specs.Regions.{newer, target_level}
 use Rattle.regions.specs.Hosts.{LineFrom, blanked_at, top_of}
 use Rattle.regions.specs.declared.own.Own.{Own}
-use Rattle.regions.specs.declared.own.NextOwn.{NextOwn}
-use Rattle.regions.specs.declared.own.NextOwn.TheVariants.{Before, NoMore}
 use Rattle.regions.specs.declared.host.HostCursor.{HostCursor}
 use Rattle.regions.specs.declared.host.Opening.{Opening}
 
@@ -43,28 +39,28 @@ pub record OwnBefore (s : List ℕ) (c : Cursor) (w : Own) (g : Region) (d : Cur
   pub cursor : d ≡ cursor_behind s g
   pub own : v ≡ own_after w (lines_before s c g.opener.line)
 
-abbrev pub FoundOwn : List ℕ → Cursor → Own → NextOwn → Type 0
-FoundOwn s c w (Before g d v) = OwnBefore s c w g d v
-FoundOwn s c w NoMore = regions_from s c ≡ []
+abbrev pub FoundOwn : List ℕ → Cursor → Own → Option (Region × (Cursor × Own)) → Type 0
+FoundOwn s c w (Some (g, (d, v))) = OwnBefore s c w g d v
+FoundOwn s c w None = regions_from s c ≡ []
 
 -- 12, as a test
-abbrev pub is_headless : Bool → TopLevel → Bool
-is_headless peer (Level n) = false
-is_headless peer NoHeading = peer
+abbrev pub is_headless : Bool → Option ℕ → Bool
+is_headless peer (Some n) = false
+is_headless peer None = peer
 
 -- the shallowest own level of a host, where it is needed
-pub record IsTop (s : List ℕ) (above top : TopLevel) : Type 0 where
+pub record IsTop (s : List ℕ) (above top : Option ℕ) : Type 0 where
   pub level : IsLevel top
-  pub none : above ≡ NoHeading → top ≡ top_of s
+  pub none : above ≡ None → top ≡ top_of s
 
 -- it can be found: by the cursor before a region, or from the walk w at the region's opener and the cursor d behind it
 pub record CanTop (s : List ℕ) (c : HostCursor) (d : Cursor) (w : Own) : Type 0 where
   pub line : LineFrom s d
   pub kept : 0 < c.from → IsTop s w.above c.top
-  pub rest : w.above ≡ NoHeading → IsTop s w.above (own_after w (blanked_at s d)).top
+  pub rest : w.above ≡ None → IsTop s w.above (own_after w (blanked_at s d)).top
 
 -- a region as a fill needs it, and the cursor behind it
-unfoldable pub opens_at : List ℕ → Region → TopLevel → TopLevel → Opening
+unfoldable pub opens_at : List ℕ → Region → Option ℕ → Option ℕ → Opening
 opens_at s g above top = record {
   line = g.opener.line;
   end = g.opener.at + first (is LF) (drop g.opener.at s);
@@ -73,7 +69,7 @@ opens_at s g above top = record {
   headless = is_headless g.peer above;
 }
 
-unfoldable pub cursor_at : Region → Cursor → Own → TopLevel → HostCursor
+unfoldable pub cursor_at : Region → Cursor → Own → Option ℕ → HostCursor
 cursor_at g d w top = record {
   at = d.at;
   line = d.line;

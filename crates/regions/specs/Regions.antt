@@ -1,5 +1,5 @@
 -- Document 01, "Fill": what a fill finds in a file before it takes anything in.
-use Rattle.std.specs.Prelude.{ℕ, ◌+◌, ◌-◌, Bool, false, cond, ◌&&◌, ◌||◌, List, [], ◌∷◌, ◌++◌, take, drop, eqb, leb}
+use Rattle.std.specs.Prelude.{ℕ, ◌+◌, ◌-◌, Bool, false, cond, ◌&&◌, ◌||◌, List, [], ◌∷◌, ◌++◌, take, drop, eqb, leb, Option, Some, None}
 use Rattle.answer.specs.Answer.{place}
 use Rattle.answer.specs.declared.Place.{Place}
 use Rattle.answer.specs.declared.Refusal.{Refusal}
@@ -12,8 +12,6 @@ use Rattle.scan.specs.declared.event.Event.{Event}
 use Rattle.scan.specs.declared.event.Event.TheVariants.{OfSpan, OfRegion, OfProblem}
 use Rattle.heading.specs.Level.{shallowest_of}
 use Rattle.heading.specs.Walk.{walk_begin, kinds_from}
-use Rattle.heading.specs.declared.level.TopLevel.{TopLevel}
-use Rattle.heading.specs.declared.level.TopLevel.TheVariants.{Level, NoHeading}
 use Rattle.heading.specs.declared.walk.LineKind.{LineKind}
 use Rattle.heading.specs.declared.walk.LineKind.TheVariants.{Quoted, Heading, Other}
 use Rattle.index.specs.Index.{File}
@@ -42,29 +40,29 @@ abbrev pub own_kinds : List Region → List (List ℕ) → List LineKind
 own_kinds gs ls = kinds_from walk_begin (blanked_from 1 gs ls)
 
 -- the level of the last heading of lines, b standing before them
-abbrev pub newer : TopLevel → LineKind → TopLevel
+abbrev pub newer : Option ℕ → LineKind → Option ℕ
 newer b Quoted = b
-newer b (Heading n a e) = Level n
+newer b (Heading n a e) = Some n
 newer b Other = b
 
-unfoldable pub last_level : TopLevel → List LineKind → TopLevel
+unfoldable pub last_level : Option ℕ → List LineKind → Option ℕ
 last_level b [] = b
 last_level b (k ∷ ks) = last_level (newer b k) ks
 
 -- the "nearest own heading above" a line
-abbrev pub above : ℕ → List LineKind → TopLevel
-above line own = last_level NoHeading (take (line - 1) own)
+abbrev pub above : ℕ → List LineKind → Option ℕ
+above line own = last_level None (take (line - 1) own)
 
 -- "Target: level of the nearest own heading above, plus 1 unless peer; with none above, the shallowest own level, else 1."
-abbrev pub target_level : Bool → TopLevel → TopLevel → ℕ
-target_level peer (Level n) top = cond peer n (n + 1)
-target_level peer NoHeading (Level n) = n
-target_level peer NoHeading NoHeading = 1
+abbrev pub target_level : Bool → Option ℕ → Option ℕ → ℕ
+target_level peer (Some n) top = cond peer n (n + 1)
+target_level peer None (Some n) = n
+target_level peer None None = 1
 
 -- 12 "peer, no own heading above"
-abbrev pub peer_faults : Bool → TopLevel → Place → List Refusal
-peer_faults peer (Level n) p = []
-peer_faults peer NoHeading p = cond peer (PeerWithoutHeading p ∷ []) []
+abbrev pub peer_faults : Bool → Option ℕ → Place → List Refusal
+peer_faults peer (Some n) p = []
+peer_faults peer None p = cond peer (PeerWithoutHeading p ∷ []) []
 
 -- a region of a host: "host lines from the last closer (at first, line 1) through the opener", its place, its faults so far, the name in it, and the target level
 pub record HostRegion : Type 0 where
@@ -90,7 +88,7 @@ regions_from h ls own n (g ∷ gs) =
       opener = place h.number g.opener.line;
       faults = peer_faults g.peer (above g.opener.line own) (place h.number g.opener.line);
       name = part g.path.start g.path.end h.text;
-      target = target_level g.peer (above g.opener.line own) (shallowest_of NoHeading own);
+      target = target_level g.peer (above g.opener.line own) (shallowest_of None own);
     })
     (regions_from h ls own (g.closer.line - 1) gs)
 

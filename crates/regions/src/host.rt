@@ -6,13 +6,13 @@ ghost use Rattle.regions.specs.Hosts.{start_cursor, HostAt, FoundHost};
 ghost use Rattle.regions.specs.Own.{is_headless, CanTop, IsTop, opens_at, cursor_at};
 
 use crate::own;
-use crate::own::{NextOwn, Own};
-use heading::level::TopLevel;
+use crate::own::Own;
 use heading::walk;
 use heading::walk::WalkState;
-use scan::event::{Part, Region};
+use scan::event::Region;
 use scan::region::Cursor;
 use text::bytes;
+use text::part::Part;
 
 // Behind a region, or at the start of a host.
 #[derive(Clone, Copy)]
@@ -26,9 +26,9 @@ pub struct HostCursor {
     pub before: usize,
     // The heading walk over the own lines so far, and the level of the last own heading.
     pub state: WalkState,
-    pub above: TopLevel,
+    pub above: Option<usize>,
     // Behind a region that no heading stands above: the shallowest own level of the host.
-    pub top: TopLevel,
+    pub top: Option<usize>,
 }
 
 // A region as a fill needs it: the opener's line, where that line ends (its LF or the text's end), the path's place, the target level, and whether 12 stands there.
@@ -41,12 +41,6 @@ pub struct Opening {
     pub headless: bool,
 }
 
-#[derive(Clone, Copy)]
-pub enum NextHost {
-    Whole(Opening, HostCursor),
-    NoMore,
-}
-
 // The cursor at the start of a host.
 pub fn start() -> HostCursor
     ensures { result ≡ start_cursor }
@@ -57,42 +51,42 @@ pub fn start() -> HostCursor
         from: 0,
         before: 0,
         state: walk::begin(),
-        above: TopLevel::NoHeading,
-        top: TopLevel::NoHeading,
+        above: None,
+        top: None,
     }
 }
 
 // The level that a region's headings are shifted to, by the level above it and the shallowest of the host.
-fn target(peer: bool, above: TopLevel, top: TopLevel) -> usize
+fn target(peer: bool, above: Option<usize>, top: Option<usize>) -> usize
     requires { IsLevel above × IsLevel top }
     ensures { (result ≡ target_level peer above top) × ((1 ≤ result) × (result ≤ 7)) }
 {
     match above {
-        TopLevel::Level(n) => {
+        Some(n) => {
             if peer {
                 return n;
             }
             n + 1
         }
-        TopLevel::NoHeading => match top {
-            TopLevel::Level(n) => n,
-            TopLevel::NoHeading => 1,
+        None => match top {
+            Some(n) => n,
+            None => 1,
         },
     }
 }
 
 // Whether a peer has no own heading above it.
-fn is_headless(peer: bool, above: TopLevel) -> bool
+fn is_headless(peer: bool, above: Option<usize>) -> bool
     ensures { result ≡ is_headless peer above }
 {
     match above {
-        TopLevel::Level(_) => false,
-        TopLevel::NoHeading => peer,
+        Some(_) => false,
+        None => peer,
     }
 }
 
 // The shallowest own level of the host, where a region has nothing above it: found at the first region, and kept.
-fn top_of(s: &[u8], c: HostCursor, d: Cursor, w: Own) -> TopLevel
+fn top_of(s: &[u8], c: HostCursor, d: Cursor, w: Own) -> Option<usize>
     requires { CanTop s.now c d w }
     ensures { IsTop s.now w.above result }
 {
@@ -102,12 +96,12 @@ fn top_of(s: &[u8], c: HostCursor, d: Cursor, w: Own) -> TopLevel
     }
     let above = w.above;
     match above {
-        TopLevel::Level(_) => TopLevel::NoHeading,
-        TopLevel::NoHeading => own::rest_top(s, d, w),
+        Some(_) => None,
+        None => own::rest_top(s, d, w),
     }
 }
 
-fn opens_at(s: &[u8], g: Region, above: TopLevel, top: TopLevel) -> Opening
+fn opens_at(s: &[u8], g: Region, above: Option<usize>, top: Option<usize>) -> Opening
     requires { (g.opener.at ≤ length s.now) × (IsLevel above × IsLevel top) }
     ensures { (result ≡ opens_at s.now g above top) × (((1 ≤ result.target) × (result.target ≤ 7)) × (result.end ≤ length s.now)) }
 {
@@ -123,7 +117,7 @@ fn opens_at(s: &[u8], g: Region, above: TopLevel, top: TopLevel) -> Opening
 }
 
 // The cursor behind a region, with the walk at its opener.
-fn behind(g: Region, d: Cursor, w: Own, top: TopLevel) -> HostCursor
+fn behind(g: Region, d: Cursor, w: Own, top: Option<usize>) -> HostCursor
     requires { (1 ≤ g.closer.at) × (1 ≤ g.closer.line) }
     ensures { result ≡ cursor_at g d w top }
 {
@@ -142,7 +136,7 @@ fn behind(g: Region, d: Cursor, w: Own, top: TopLevel) -> HostCursor
 }
 
 // The next region of a host from a cursor on, and the cursor behind it.
-pub fn next_host(s: &[u8], c: HostCursor) -> NextHost
+pub fn next_host(s: &[u8], c: HostCursor) -> Option<(Opening, HostCursor)>
     requires { HostAt s.now c }
     ensures { FoundHost s.now c result }
 {
@@ -151,7 +145,7 @@ pub fn next_host(s: &[u8], c: HostCursor) -> NextHost
     let w = Own {
         state,
         above,
-        top: TopLevel::NoHeading,
+        top: None,
     };
     let r = own::next_own(
         s,
@@ -162,11 +156,11 @@ pub fn next_host(s: &[u8], c: HostCursor) -> NextHost
         w,
     );
     match r {
-        NextOwn::Before(g, d, x) => {
+        Some((g, d, x)) => {
             let top = top_of(s, c, d, x);
             let above = x.above;
-            NextHost::Whole(opens_at(s, g, above, top), behind(g, d, x, top))
+            Some((opens_at(s, g, above, top), behind(g, d, x, top)))
         }
-        NextOwn::NoMore => NextHost::NoMore,
+        None => None,
     }
 }

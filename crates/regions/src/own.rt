@@ -5,30 +5,22 @@ ghost use Rattle.regions.specs.Regions.{newer as newer_of};
 ghost use Rattle.regions.specs.Hosts.{LineFrom, blanked_at};
 ghost use Rattle.regions.specs.Own.{own_step, own_after, FoundOwn};
 
-use heading::level::TopLevel;
 use heading::walk::{LineKind, WalkState};
 use heading::{level, walk};
 use scan::event::Region;
 use scan::region;
-use scan::region::{Cursor, NextRegion};
+use scan::region::Cursor;
 use text::lines;
 
 // The heading walk behind lines: its state, the level of the last heading, and the shallowest level.
 #[derive(Clone, Copy)]
 pub struct Own {
     pub state: WalkState,
-    pub above: TopLevel,
-    pub top: TopLevel,
+    pub above: Option<usize>,
+    pub top: Option<usize>,
 }
 
-#[derive(Clone, Copy)]
-pub enum NextOwn {
-    // A region, the cursor behind its closer, and the walk at its opener.
-    Before(Region, Cursor, Own),
-    NoMore,
-}
-
-fn newer(above: TopLevel, kind: LineKind) -> TopLevel
+fn newer(above: Option<usize>, kind: LineKind) -> Option<usize>
     ensures { result ≡ newer_of above kind }
 {
     match kind {
@@ -37,7 +29,7 @@ fn newer(above: TopLevel, kind: LineKind) -> TopLevel
             level,
             start: _,
             end: _,
-        } => TopLevel::Level(level),
+        } => Some(level),
         LineKind::Other => above,
     }
 }
@@ -76,13 +68,13 @@ fn own_after(s: &[u8], w: Own) -> Own
 }
 
 // The next region from a cursor on, with the walk over the lines before it.
-pub fn next_own(s: &[u8], c: Cursor, w: Own) -> NextOwn
+pub fn next_own(s: &[u8], c: Cursor, w: Own) -> Option<(Region, Cursor, Own)>
     requires { LineFrom s.now c }
     ensures { FoundOwn s.now c w result }
 {
     let r = region::next_region(s, c);
     match r {
-        NextRegion::Whole(g, _) => {
+        Some((g, _)) => {
             let opener = g.opener;
             let closer = g.closer;
             let a = c.at;
@@ -91,14 +83,14 @@ pub fn next_own(s: &[u8], c: Cursor, w: Own) -> NextOwn
             let own = own_after(&s[a..b], w);
             let l = lines::line(s, e, e);
             let line = closer.line;
-            NextOwn::Before(g, Cursor { at: l.next, line }, own)
+            Some((g, Cursor { at: l.next, line }, own))
         }
-        NextRegion::NoMore => NextOwn::NoMore,
+        None => None,
     }
 }
 
 // The shallowest level of the own lines from a cursor on, with those before it walked.
-pub fn rest_top(s: &[u8], from: Cursor, w: Own) -> TopLevel
+pub fn rest_top(s: &[u8], from: Cursor, w: Own) -> Option<usize>
     requires { LineFrom s.now from }
     ensures { result ≡ (own_after w (blanked_at s.now from)).top }
 {
@@ -107,11 +99,11 @@ pub fn rest_top(s: &[u8], from: Cursor, w: Own) -> TopLevel
     loop {
         let r = next_own(s, c, own);
         match r {
-            NextOwn::Before(_, d, x) => {
+            Some((_, d, x)) => {
                 c = d;
                 own = x;
             }
-            NextOwn::NoMore => {
+            None => {
                 let a = c.at;
                 let all = own_after(&s[a..], own);
                 return all.top;

@@ -6,7 +6,6 @@ ghost use Rattle.std.specs.Prelude.{◌≡◌, length};
 use answer::Answer;
 use std::io;
 use std::io::{Read, Write};
-use stored::header::Header;
 use stored::{header, print};
 use text::ascii;
 
@@ -39,7 +38,7 @@ fn replay_text(
     }
     let a = listing::scan(text, out);
     print::numbers(to, answer::numbers(a))?;
-    if let Answer::Accepted { length, files: _ } = a {
+    if let Ok(Answer::Accepted { length, files: _ }) = a {
         to.write_all(&out[..length])?;
     }
     if ascii::wide_line(text) == 0 {
@@ -75,8 +74,8 @@ fn replay_next(from: &mut impl Read, to: &mut impl Write) -> io::Result<bool> {
         return Ok(false);
     }
     match header::parse(&bytes) {
-        Header::Numbers(length, room) => replay_case(from, to, length, room),
-        Header::IllFormed => {
+        Some((length, room)) => replay_case(from, to, length, room),
+        None => {
             stored::print_ill_formed(to)?;
             Ok(false)
         }

@@ -1,7 +1,6 @@
 // The outline of a text: a row for each heading, with its anchor, and for each quoted line.
 ghost use Rattle.std.specs.Prelude.{◌≤◌, ◌<◌, IfOk};
 
-use anchor::AnchorByte;
 use heading::walk;
 use heading::walk::{LineKind, WalkState};
 use std::io;
@@ -29,12 +28,12 @@ fn print_anchor(to: &mut impl Write, text: &[u8]) -> io::Result<()> {
     loop {
         let x = anchor::next(text, c);
         match x {
-            AnchorByte::Byte(b, d) => {
+            Some((b, d)) => {
                 block[used] = b;
                 used = write_full(to, &block, used + 1)?;
                 c = d;
             }
-            AnchorByte::End => return to.write_all(&block[..used]),
+            None => return to.write_all(&block[..used]),
         }
     }
 }

@@ -7,7 +7,7 @@ ghost use Rattle.stored.specs.Case.{Small};
 use std::io;
 use std::io::{Read, Write};
 use stored::case;
-use stored::case::{Limits, NextCase, Starts};
+use stored::case::{Case, Limits, Starts};
 
 // The loop over the cases has to end, and nothing says that the input does.
 const MOST_CASES: usize = 100_000;
@@ -61,11 +61,11 @@ fn replay_case(to: &mut impl Write, given: &[u8], at: Starts, limits: Limits) ->
 fn replay_next(from: &mut impl Read, to: &mut impl Write) -> io::Result<bool> {
     let mut given = case::given_buffer();
     match case::read_case(from, to, &mut given)? {
-        NextCase::Handed { at, limits } => {
+        Some(Case { at, limits }) => {
             replay_case(to, &given, at, limits)?;
             Ok(true)
         }
-        NextCase::Nothing => Ok(false),
+        None => Ok(false),
     }
 }
 

@@ -1,4 +1,5 @@
 -- Laws of a loop over a path's parts from the last to the first: what it has measured or written. Assumes nothing.
+use Rattle.std.specs.Prelude.{Option, None}
 use Prim.Native.Nat.{ℕ, zero, suc, ◌+◌, ◌-◌, ◌≤◌, ◌<◌}
 use native.Mathlib.Omega.{arith}
 use mathlib.Core.Path.{◌≡◌, refl, sym, ap, subst, ◌∙◌}
@@ -8,14 +9,13 @@ use lib.ListN.{length, take, drop, length-append, length-take}
 use lib.Seq.{sets, length-sets, take-take, drop-drop, drop-length}
 use lib.Dec.{eqb}
 use borrow.Author.Tests.{eq-eqb, ne_eqb}
+use Rattle.path.specs.declared.PathPart.{PathPart}
 use Rattle.text.specs.Bytes.{part}
 use Rattle.text.proofs.BytesLaws.{drop_take, part_full}
 use Rattle.buffer.proofs.BufferLaws.{sets_before, drop_sets, drop_past}
 use Rattle.path.specs.Path.{SLASH, resolve}
 use Rattle.path.specs.Backward.{put, weight, holder, piece, from_end, Within, LastKept, LastPart, Bounded}
 use Rattle.path.specs.declared.PathCursor.{PathCursor}
-use Rattle.path.specs.declared.PathPart.{PathPart}
-use Rattle.path.specs.declared.PathPart.TheVariants.{Root}
 use Rattle.path.proofs.PathLaws.{Reached, reached_start, reached_on, reached_root, reached_fits}
 use Rattle.resolve.specs.Joined.{lengthened, closed, Closed}
 
@@ -135,13 +135,13 @@ module _ {dir path : List ℕ} {end : ℕ} {out₀ out : List ℕ} {at : ℕ} {c
   pub written-length : length out ≡ length out₀
   written-length = ap length w.wrote ∙ length-sets out₀ at w.made
 
-  pub written_all : LastPart dir path c Root → out ≡ sets out₀ (end - length (resolve dir path)) (resolve dir path)
+  pub written_all : LastPart dir path c None → out ≡ sets out₀ (end - length (resolve dir path)) (resolve dir path)
   written_all h =
       let q : w.made ≡ resolve dir path = reached_root w.reached h in
       let k : at ≡ end - length (resolve dir path) = omega (arith, w.place, ap length q) in
       w.wrote ∙ ap (sets out₀ at) q ∙ ap (λ (n : ℕ). sets out₀ n (resolve dir path)) k
 
-  pub written-end : end ≡ length out₀ → LastPart dir path c Root → (at ≤ length out) × (drop at out ≡ resolve dir path)
+  pub written-end : end ≡ length out₀ → LastPart dir path c None → (at ≤ length out) × (drop at out ≡ resolve dir path)
   written-end e h =
       let t : List ℕ = w.made in (
         omega (arith, w.place, written-length),
@@ -204,7 +204,7 @@ module _ {dir out₀ out : List ℕ} {from end at : ℕ} {c : PathCursor} (to : 
   pub down_within : Within dir (part from to out) c
   down_within = subst (λ (p : List ℕ). Within dir p c) (sym down-path) w.reached.within
 
-  pub down_last : (r : PathPart) → LastPart dir (part from to out) c r → LastPart dir (part from to out₀) c r
+  pub down_last : (r : Option PathPart) → LastPart dir (part from to out) c r → LastPart dir (part from to out₀) c r
   down_last r h = subst (λ (p : List ℕ). LastPart dir p c r) down-path h
 
   module _ {b : PathCursor} {e : ℕ} (h : LastKept dir (part from to out₀) c b e) where

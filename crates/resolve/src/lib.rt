@@ -12,14 +12,6 @@ ghost use Rattle.resolve.specs.Resolve.{Resolves};
 ghost use Rattle.resolve.specs.Joined.{lengthened, closed, Closed};
 
 use path::{PathCursor, PathPart};
-use text::pattern::Found;
-
-// Where a resolved path starts in a buffer at whose end it stands; or that it is longer than the buffer.
-#[derive(Clone, Copy)]
-pub enum Resolved {
-    From(usize),
-    Long,
-}
 
 // How long joined parts are with another one of k bytes.
 fn lengthen(n: usize, k: usize) -> usize
@@ -39,7 +31,7 @@ pub fn resolved_length(path: &[u8], dir: &[u8]) -> usize
     let mut n = 0;
     let mut c = path::from_end(path);
     loop {
-        let PathPart::Part { before, end } = path::last_part(path, dir, c) else {
+        let Some(PathPart { before, end }) = path::last_part(path, dir, c) else {
             return n;
         };
         n = lengthen(n, end - before.left);
@@ -99,7 +91,7 @@ pub fn put_resolved(path: &[u8], dir: &[u8], end: usize, out: &mut [u8])
     let mut at = end;
     let mut c = path::from_end(path);
     loop {
-        let PathPart::Part { before, end: e } = path::last_part(path, dir, c) else {
+        let Some(PathPart { before, end: e }) = path::last_part(path, dir, c) else {
             return;
         };
         at = put_kept(path, dir, before, e, at, end, out);
@@ -146,7 +138,7 @@ pub fn put_resolved_down(work: &mut [u8], from: usize, to: usize, dir: &[u8], en
     let mut at = end;
     let mut c = path::from_end(&work[from..to]);
     loop {
-        let PathPart::Part { before, end: e } = path::last_part(&work[from..to], dir, c) else {
+        let Some(PathPart { before, end: e }) = path::last_part(&work[from..to], dir, c) else {
             return;
         };
         at = put_kept_down(work, from, dir, before, e, at, end);
@@ -155,18 +147,18 @@ pub fn put_resolved_down(work: &mut [u8], from: usize, to: usize, dir: &[u8], en
 }
 
 // Writes a path in a directory, once it is resolved, so that it ends at a buffer's end, where the buffer holds it.
-pub fn resolve_into(path: &[u8], dir: &[u8], out: &mut [u8]) -> Resolved
+pub fn resolve_into(path: &[u8], dir: &[u8], out: &mut [u8]) -> Option<usize>
     ensures { Resolves dir.now path.now out.new result }
 {
     let end = out.len();
     let mut at = end;
     let mut c = path::from_end(path);
     loop {
-        let PathPart::Part { before, end: e } = path::last_part(path, dir, c) else {
-            return Resolved::From(at);
+        let Some(PathPart { before, end: e }) = path::last_part(path, dir, c) else {
+            return Some(at);
         };
         if end < lengthen(end - at, e - before.left) {
-            return Resolved::Long;
+            return None;
         }
         at = put_kept(path, dir, before, e, at, end, out);
         c = before;
@@ -180,10 +172,10 @@ pub fn resolves_to(path: &[u8], dir: &[u8], name: &[u8]) -> bool
     let mut at = name.len();
     let mut c = path::from_end(path);
     loop {
-        let PathPart::Part { before, end } = path::last_part(path, dir, c) else {
+        let Some(PathPart { before, end }) = path::last_part(path, dir, c) else {
             return at == 0;
         };
-        let Found::At(a) = path::find_kept(path, dir, before, end, name, at) else {
+        let Some(a) = path::find_kept(path, dir, before, end, name, at) else {
             return false;
         };
         at = a;

@@ -1,4 +1,5 @@
 -- Laws of a source whose links are rewritten, put piece after piece. Assumes nothing.
+use Rattle.std.specs.Prelude.{Option, Some, None}
 use Prim.Native.Nat.{ℕ, ◌+◌, ◌-◌, ◌≤◌, ◌<◌}
 use native.Mathlib.Omega.{arith}
 use mathlib.Core.Path.{◌≡◌, refl, sym, ap, subst, ◌∙◌}
@@ -9,12 +10,10 @@ use Rattle.text.specs.Bytes.{part}
 use Rattle.text.proofs.BytesLaws.{rest}
 use Rattle.link.specs.Links.{relink, FoundLink}
 use Rattle.link.specs.Target.{rewrite_target}
-use Rattle.link.specs.declared.links.NextLink.TheVariants.{Link, NoLink}
 use Rattle.link.proofs.LinkLaws.{link_long}
 use Rattle.put.specs.Put.{source_text, part_of, Able, Written, Wrote}
 use Rattle.put.specs.declared.Source.{Source}
 use Rattle.put.specs.declared.Room.{Room}
-use Rattle.put.specs.declared.Put.{Put}
 use Rattle.put.proofs.PutLaws.{Reached, room_at, reached_start, reached_next, reached_over, reached_last, reached_length, reached_behind, source-length, source-same, part_same, able_part, able_on}
 use Rattle.members.specs.Members.{AllStand}
 use Rattle.target.specs.Titles.{titles_in}
@@ -43,17 +42,17 @@ module _ {source : Source} {room : Room} {c w : List ℕ} (able : Able source ro
     same = source-same able p.reached
 
     -- no more links: the rest is put as it is
-    pub linking_end : FoundLink (source_text source c v) i NoLink → (u : List ℕ) (r : Put)
+    pub linking_end : FoundLink (source_text source c v) i None → (u : List ℕ) (r : Option ℕ)
         → Wrote (room_at room at) (part i (source.end - source.start) (source_text source c v)) v u r → Wrote room (relink f (source_text source c w)) w u r
     linking_end h u r q =
         let t : part i (source.end - source.start) (source_text source c v) ≡ relink f (drop i (source_text source c w)) =
-        rw same (ap (λ (n : ℕ). part i n (source_text source c w)) (sym (source-length able)) ∙ rest (source_text source c w) i ∙ sym (subst (λ (x : List ℕ). FoundLink x i NoLink) same h f)) in
+        rw same (ap (λ (n : ℕ). part i n (source_text source c w)) (sym (source-length able)) ∙ rest (source_text source c w) i ∙ sym (subst (λ (x : List ℕ). FoundLink x i None) same h f)) in
         reached_last p.reached u r (subst (λ (x : List ℕ). Wrote (room_at room at) x v u r) t q)
 
     -- a link: what stands before its target is put, and then what the target becomes
-    module _ (a e : ℕ) (h : FoundLink (source_text source c v) i (Link a e)) where
-      found : FoundLink (source_text source c w) i (Link a e)
-      found = subst (λ (x : List ℕ). FoundLink x i (Link a e)) same h
+    module _ (a e : ℕ) (h : FoundLink (source_text source c v) i (Some (record { start = a; end = e }))) where
+      found : FoundLink (source_text source c w) i (Some (record { start = a; end = e }))
+      found = subst (λ (x : List ℕ). FoundLink x i (Some (record { start = a; end = e }))) same h
 
       pub link_bounds : ((i ≤ a) × (a ≤ e)) × ((e ≤ source.end - source.start) × (i < e))
       link_bounds = ((found.0.0, found.0.1.0), (omega (arith, source-length able, found.0.1.1), link_long (source_text source c w) i a e found))

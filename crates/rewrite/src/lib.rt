@@ -8,8 +8,8 @@ ghost use Rattle.put.specs.Put.{source_text, Able, Wrote};
 ghost use Rattle.members.specs.Members.{AllStand};
 ghost use Rattle.target.specs.Titles.{titles_in};
 
-use link::links::NextLink;
-use put::{Put, Room, Source};
+use link::links::Part;
+use put::{Room, Source};
 
 mod read;
 
@@ -24,7 +24,7 @@ pub fn put_links(
     dir: &[u8],
     room: Room,
     work: &mut [u8],
-) -> Put
+) -> Option<usize>
     requires { Able source room contents.now work.old × AllStand index.now (length contents.now) room.limit (length work.old) set.now count }
     ensures { Wrote room (relink (rewrite_target (titles_in index.now contents.now work.old set.now count) url.now dir.now) (source_text source contents.now work.old)) work.old work.new result }
 {
@@ -33,14 +33,14 @@ pub fn put_links(
     let mut at = room.at;
     let mut i = 0;
     loop {
-        let NextLink::Link { start: a, end: e } = read::link_in(contents, work, source, i) else {
+        let Some(Part { start: a, end: e }) = read::link_in(contents, work, source, i) else {
             return put::put_part(contents, source, i, n, Room { at, limit }, work);
         };
-        let Put::To(m) = put::put_part(contents, source, i, a, Room { at, limit }, work) else {
-            return Put::Over;
+        let Some(m) = put::put_part(contents, source, i, a, Room { at, limit }, work) else {
+            return None;
         };
         let target = put::part_of(source, a, e);
-        let Put::To(behind) = target::put_target(
+        let Some(behind) = target::put_target(
             index,
             contents,
             url,
@@ -51,7 +51,7 @@ pub fn put_links(
             Room { at: m, limit },
             work,
         ) else {
-            return Put::Over;
+            return None;
         };
         at = behind;
         i = e;

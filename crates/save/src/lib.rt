@@ -3,7 +3,6 @@
 // Saves a text: to a new file beside the one named, which then takes its name. So the name has the old text or the new one, whole.
 ghost use Rattle.std.specs.Prelude.{◌≤◌, length};
 
-use resolve::Resolved;
 use station::{failed, shown};
 use std::env::Env;
 use std::fs::{Files, OpenFile, OpenOptions};
@@ -98,7 +97,7 @@ pub fn save<R: Env + Files>(rt: &R, to: &mut impl Write, i: usize, text: &[u8]) 
 fn is_same(a: &[u8], b: &[u8]) -> bool {
     let above = b"\0/\0/\0/\0/\0/\0/\0/\0";
     let mut whole = [0u8; 4096];
-    let Resolved::From(at) = resolve::resolve_into(b, above, &mut whole) else {
+    let Some(at) = resolve::resolve_into(b, above, &mut whole) else {
         return false;
     };
     resolve::resolves_to(a, above, &whole[at..])

@@ -1,4 +1,5 @@
 -- Laws of `specs/Regions.antt`: the regions among what a scan finds, line by line. Assumes nothing.
+use Rattle.std.specs.Prelude.{Option, Some, None}
 use Prim.Native.Nat.{ℕ, ◌+◌, ◌≤◌}
 use native.Mathlib.Omega.{arith}
 use mathlib.Core.Path.{◌≡◌, refl, sym, ap, ◌∙◌}
@@ -17,11 +18,8 @@ use Rattle.scan.specs.declared.event.Span.{Span}
 use Rattle.marker.specs.declared.line.Kind.{Kind}
 use Rattle.marker.specs.declared.line.Kind.TheVariants.{Plain, Fence, Fault, Closes, Opens, Spans}
 use Rattle.scan.specs.declared.region.Cursor.{Cursor}
-use Rattle.scan.specs.declared.seek.Seek.TheVariants.{LineAt, TextEnd}
 use Rattle.marker.specs.declared.span.Stop.{Stop}
 use Rattle.marker.specs.declared.span.Stop.TheVariants.{AtProblem, AtSpanEnd}
-use Rattle.scan.specs.declared.state.OpenRegion.{OpenRegion}
-use Rattle.scan.specs.declared.state.OpenRegion.TheVariants.{Closed, Open}
 use Rattle.scan.specs.declared.state.State.{State}
 use Rattle.marker.proofs.MarkerLaws.{kind-closes}
 use Rattle.scan.proofs.ScanLaws.{sought_line, sought_end}
@@ -49,12 +47,12 @@ line-none st n o l Closes h = absurd (h refl)
 line-none st n o l (Opens a e peer) h = refl
 line-none st n o l (Spans i) h = spans-none n (read_line n (o + i) (drop i l)).spans (read_line n (o + i) (drop i l)).stop
 
-pub last_none : (region : OpenRegion) (fence : Bool) (k : ℕ) → regions_of (last_of (record { fence = fence; region = region }) k) ≡ []
+pub last_none : (region : Option Opener) (fence : Bool) (k : ℕ) → regions_of (last_of (record { fence = fence; region = region }) k) ≡ []
 unfolding regions_of last_of
-last_none Closed true k = refl
-last_none Closed false k = refl
-last_none (Open g) true k = refl
-last_none (Open g) false k = refl
+last_none None true k = refl
+last_none None false k = refl
+last_none (Some g) true k = refl
+last_none (Some g) false k = refl
 
 -- a region is closed only where one is open, outside a fence
 kind-at-closes : (st : State) (o : ℕ) (l : List ℕ) → kind_at st o l ≡ Closes → (st.fence ≡ false) × (is_open st.region ≡ true)
@@ -63,21 +61,21 @@ kind-at-closes st o l h = kind-closes st.fence (is_open st.region) o l h
 
 -- one turn of the search: the regions from place a on are rs
 module _ (s : List ℕ) (a n k b e x : ℕ) (st : State) (rs : List Region) (i : regions_of (scan_from st (n + 1) (lines_from a (drop a s))) ≡ rs) where
-  split : Sought s a n (LineAt k b e x)
+  split : Sought s a n (Some (record { number = k; start = b; end = e; next = x }))
       → regions_of (events_of st k b (part b e s) (kind_at st b (part b e s))) ++ regions_of (scan_from (after st k b (kind_at st b (part b e s))) (k + 1) (lines_from x (drop x s))) ≡ rs
   split h =
       sym (regions_append (events_of st k b (part b e s) (kind_at st b (part b e s))) (scan_from (after st k b (kind_at st b (part b e s))) (k + 1) (lines_from x (drop x s))))
       ∙ ap regions_of (sym (sought_line s a n k b e x st h))
       ∙ i
 
-  pub region_on : {kind : Kind} {next : State} → Sought s a n (LineAt k b e x) → kind ≡ kind_at st b (part b e s) → (kind ≡ Closes → ⊥) → next ≡ after st k b kind
+  pub region_on : {kind : Kind} {next : State} → Sought s a n (Some (record { number = k; start = b; end = e; next = x })) → kind ≡ kind_at st b (part b e s) → (kind ≡ Closes → ⊥) → next ≡ after st k b kind
       → regions_of (scan_from next (k + 1) (lines_from x (drop x s))) ≡ rs
   region_on {kind} h ek c en = rw (en, ek) (rw (line-none st k b (part b e s) (kind_at st b (part b e s)) (λ q. c (ek ∙ q))) at (split h))
 
-  pub region_none : Sought s a n TextEnd → rs ≡ []
+  pub region_none : Sought s a n None → rs ≡ []
   region_none h = sym i ∙ ap regions_of (sought_end s a n st h) ∙ last_none st.region st.fence (n + length (lines_from a (drop a s)))
 
-  pub region_found : (from : Cursor) → rs ≡ regions_from s from → from.at ≤ a → Sought s a n (LineAt k b e x) → Closes ≡ kind_at st b (part b e s)
+  pub region_found : (from : Cursor) → rs ≡ regions_from s from → from.at ≤ a → Sought s a n (Some (record { number = k; start = b; end = e; next = x })) → Closes ≡ kind_at st b (part b e s)
       → FoundRegion s from (closed_at st.region k b x)
   unfolding events_of after regions_of
   region_found from q f h c = go st.region refl
@@ -85,6 +83,6 @@ module _ (s : List ℕ) (a n k b e x : ℕ) (st : State) (rs : List Region) (i :
       w : (st.fence ≡ false) × (is_open st.region ≡ true)
       w = kind-at-closes st b (part b e s) (sym c)
 
-      go : (region : OpenRegion) → st.region ≡ region → FoundRegion s from (closed_at region k b x)
-      go Closed r = absurd (false≢true (rw r at w.1))
-      go (Open g) r = (sym q ∙ sym (rw (← c, w.0, r) at (split h)), (omega (arith, h.1), (h.1.1.1.1.0, h.1.1.1.1.1)))
+      go : (region : Option Opener) → st.region ≡ region → FoundRegion s from (closed_at region k b x)
+      go None r = absurd (false≢true (rw r at w.1))
+      go (Some g) r = (sym q ∙ sym (rw (← c, w.0, r) at (split h)), (omega (arith, h.1), (h.1.1.1.1.0, h.1.1.1.1.1)))

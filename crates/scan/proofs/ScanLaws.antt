@@ -1,4 +1,5 @@
 -- Laws of `specs/Scan.antt`: lines that are passed over, a turn of the scan, the reading of a line, and the regions. Assumes nothing.
+use Rattle.std.specs.Prelude.{Some, None}
 use Prim.Native.Nat.{ℕ, zero, suc, ◌+◌, ◌-◌, ◌≤◌, ◌<◌}
 use native.Mathlib.Nat.{add-zero}
 use native.Mathlib.Omega.{arith}
@@ -18,7 +19,6 @@ use Rattle.marker.specs.Marker.{OPEN, next_mark, first_of}
 use Rattle.scan.specs.Scan.{Reading, read_by, read_from, read_line, then_read, events_of, after, kind_at, is_open, last_of, scan_from, span_of, stopped}
 use Rattle.scan.specs.Skip.{all_plain, Sought}
 use Rattle.marker.specs.declared.line.Kind.TheVariants.{Spans}
-use Rattle.scan.specs.declared.seek.Seek.TheVariants.{LineAt, TextEnd}
 use Rattle.marker.specs.declared.span.Mark.{Mark}
 use Rattle.marker.specs.declared.span.Mark.TheVariants.{Marked, Problem, End}
 use Rattle.marker.specs.declared.span.Stop.TheVariants.{AtProblem, AtSpanEnd}
@@ -42,7 +42,7 @@ scan_skip (l ∷ ls) rest st n h =
     ∙ ap (λ (m : ℕ). scan_from st m rest) k
 
 -- a scan from place a on, after n lines, up to the next line that is looked at
-pub sought_line : (s : List ℕ) (a n k b e x : ℕ) (st : State) → Sought s a n (LineAt k b e x)
+pub sought_line : (s : List ℕ) (a n k b e x : ℕ) (st : State) → Sought s a n (Some (record { number = k; start = b; end = e; next = x }))
     → scan_from st (n + 1) (lines_from a (drop a s))
     ≡ events_of st k b (part b e s) (kind_at st b (part b e s)) ++ scan_from (after st k b (kind_at st b (part b e s))) (k + 1) (lines_from x (drop x s))
 unfolding scan_from
@@ -53,7 +53,7 @@ sought_line s a n k b e x st h =
     ∙ ap (λ (m : ℕ). scan_from st m (l ∷ lines_from x (drop x s))) (sym h.0.number)
 
 -- or up to the text's end
-pub sought_end : (s : List ℕ) (a n : ℕ) (st : State) → Sought s a n TextEnd
+pub sought_end : (s : List ℕ) (a n : ℕ) (st : State) → Sought s a n None
     → scan_from st (n + 1) (lines_from a (drop a s)) ≡ last_of st (n + length (lines_from a (drop a s)))
 unfolding scan_from
 sought_end s a n st h =

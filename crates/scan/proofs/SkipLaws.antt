@@ -1,6 +1,7 @@
 -- Laws of `specs/Skip.antt`: three bytes side by side in a text and in its parts, for code that looks for them byte by byte or block
 -- by block; a text without a hint has plain lines only; and what a walk that skips such lines has passed.
 -- Assumes nothing.
+use Rattle.std.specs.Prelude.{None}
 use Prim.Native.Nat.{ℕ, zero, suc, ◌+◌, ◌-◌, ◌≤◌, ◌<◌, zero-le}
 use native.Mathlib.Nat.{zero-add}
 use native.Mathlib.Numerals.{add-one, add-two}
@@ -17,7 +18,6 @@ use Rattle.text.specs.Bytes.{part, is, count, after_last}
 use Rattle.text.specs.Pattern.{starts_with, find, is_at, contains}
 use Rattle.text.specs.Space.{lead, trim_start}
 use Rattle.text.specs.Lines.{LF, Line, lines_from, line_end, line_next}
-use Rattle.text.specs.declared.pattern.Found.TheVariants.{Nothing}
 use Rattle.text.proofs.BytesLaws.{part_length, or_left, or_right, rest, after_le}
 use Rattle.text.proofs.LineLaws.{lines_step, lines_at, line-within, lines-split-at, lines_skipped_at}
 use Rattle.fence.specs.Fences.{is_fence}
@@ -155,7 +155,7 @@ module _ (g : ℕ → ℕ → ℕ → Bool) where
   three-starts-in (d ∷ q) a b c p [] h e = refl
   three-starts-in (d ∷ q) a b c p (x ∷ l) h e = rw (three-starts-in q a b c p l h (three-tail x l e)) (and-false (eqb x d))
 
-  pub three-find : (q : List ℕ) (a b c : ℕ) (p l : List ℕ) → g a b c ≡ true → any_three g l ≡ false → find (q ++ a ∷ b ∷ c ∷ p) l ≡ Nothing
+  pub three-find : (q : List ℕ) (a b c : ℕ) (p l : List ℕ) → g a b c ≡ true → any_three g l ≡ false → find (q ++ a ∷ b ∷ c ∷ p) l ≡ None
   unfolding find
   three-find q a b c p [] h e = rw (three-starts-in q a b c p [] h e)
   three-find q a b c p (x ∷ l) h e = rw (three-starts-in q a b c p (x ∷ l) h e, three-find q a b c p l h (three-tail x l e))

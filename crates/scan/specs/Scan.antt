@@ -1,5 +1,5 @@
 -- Document 01, "Marker scan", for a whole text: what is open at a line, what a line gives, and all that a scan finds.
-use Rattle.std.specs.Prelude.{ℕ, zero, suc, ◌+◌, ◌-◌, Bool, true, false, cond, not, List, [], ◌∷◌, ◌++◌, map, length, drop}
+use Rattle.std.specs.Prelude.{ℕ, zero, suc, ◌+◌, ◌-◌, Bool, true, false, cond, not, List, [], ◌∷◌, ◌++◌, map, length, drop, Option, Some, None}
 use Rattle.text.specs.Lines.{Line, lines}
 use Rattle.marker.specs.Marker.{kind_of, next_mark}
 use Rattle.marker.specs.declared.line.Kind.{Kind}
@@ -13,8 +13,6 @@ use Rattle.scan.specs.declared.event.Region.{Region}
 use Rattle.scan.specs.declared.event.Event.{Event}
 use Rattle.scan.specs.declared.event.Event.TheVariants.{OfSpan, OfRegion, OfProblem}
 use Rattle.scan.specs.declared.state.Opener.{Opener}
-use Rattle.scan.specs.declared.state.OpenRegion.{OpenRegion}
-use Rattle.scan.specs.declared.state.OpenRegion.TheVariants.{Closed, Open}
 use Rattle.scan.specs.declared.state.State.{State}
 
 -- "spans are read left to right, stopping the line at its first problem": the spans of a line, and where or by what problem the reading stopped
@@ -59,9 +57,9 @@ span_events n o l = map OfSpan (read_line n o l).spans ++ stop_events n (read_li
 abbrev pub region_of : ℕ → ℕ → Opener → Region
 region_of n o g = record { opener = g.marker; closer = record { line = n; at = o }; path = g.path; peer = g.peer }
 
-abbrev pub closed_by : ℕ → ℕ → OpenRegion → List Event
-closed_by n o Closed = []
-closed_by n o (Open g) = OfRegion (region_of n o g) ∷ []
+abbrev pub closed_by : ℕ → ℕ → Option Opener → List Event
+closed_by n o None = []
+closed_by n o (Some g) = OfRegion (region_of n o g) ∷ []
 
 -- what line n, l, at place o and of a kind, gives
 unfoldable pub events_of : State → ℕ → ℕ → List ℕ → Kind → List Event
@@ -77,24 +75,24 @@ unfoldable pub after : State → ℕ → ℕ → Kind → State
 after st n o Plain = st
 after st n o Fence = record { fence = not st.fence; region = st.region }
 after st n o (Fault k) = st
-after st n o Closes = record { fence = st.fence; region = Closed }
+after st n o Closes = record { fence = st.fence; region = None }
 after st n o (Opens a e peer) = record {
   fence = st.fence;
-  region = Open (record { marker = record { line = n; at = o }; path = record { start = a; end = e }; peer = peer });
+  region = Some (record { marker = record { line = n; at = o }; path = record { start = a; end = e }; peer = peer });
 }
 after st n o (Spans i) = st
 
-abbrev pub is_open : OpenRegion → Bool
-is_open Closed = false
-is_open (Open g) = true
+abbrev pub is_open : Option Opener → Bool
+is_open None = false
+is_open (Some g) = true
 
 unfoldable pub kind_at : State → ℕ → List ℕ → Kind
 kind_at st o l = kind_of st.fence (is_open st.region) o l
 
 -- "Problems at the end: 4 (unclosed region), then 5 (unclosed fence, at the last line)."
-abbrev pub unclosed : OpenRegion → List Event
-unclosed Closed = []
-unclosed (Open g) = OfProblem g.marker.line 4 ∷ []
+abbrev pub unclosed : Option Opener → List Event
+unclosed None = []
+unclosed (Some g) = OfProblem g.marker.line 4 ∷ []
 
 unfoldable pub last_of : State → ℕ → List Event
 last_of st last = unclosed st.region ++ cond st.fence (OfProblem last 5 ∷ []) []
@@ -107,7 +105,7 @@ scan_from st n (l ∷ ls) =
     ++ scan_from (after st n l.start (kind_at st l.start l.bytes)) (n + 1) ls
 
 abbrev pub begin : State
-begin = record { fence = false; region = Closed }
+begin = record { fence = false; region = None }
 
 unfoldable pub scan : List ℕ → List Event
 scan s = scan_from begin 1 (lines s)

@@ -1,13 +1,12 @@
 -- Lines that a scan may pass over. Nothing here is document 01's: inner functions promise it, and the laws of `proofs/` tie it to the scan.
-use Rattle.std.specs.Prelude.{ℕ, ◌+◌, ◌≤◌, ◌<◌, ◌≡◌, Bool, true, false, not, ◌&&◌, ◌||◌, List, [], ◌∷◌, ◌++◌, length, drop, eqb}
+use Rattle.std.specs.Prelude.{ℕ, ◌+◌, ◌≤◌, ◌<◌, ◌≡◌, Bool, true, false, not, ◌&&◌, ◌||◌, List, [], ◌∷◌, ◌++◌, length, drop, eqb, Option, Some, None}
 use Rattle.std.specs.Int.Bits.{bit_xor}
+use Rattle.scan.specs.declared.seek.LineAt.{LineAt}
 use Rattle.text.specs.Bytes.{part}
 use Rattle.text.specs.Pattern.{contains}
 use Rattle.text.specs.Lines.{Line, lines_from}
 use Rattle.fence.specs.Fences.{is_fence}
 use Rattle.marker.specs.Marker.{OPEN}
-use Rattle.scan.specs.declared.seek.Seek.{Seek}
-use Rattle.scan.specs.declared.seek.Seek.TheVariants.{LineAt, TextEnd}
 
 -- whether three bytes side by side in s pass the test g
 unfoldable pub any_three : (ℕ → ℕ → ℕ → Bool) → List ℕ → Bool
@@ -37,8 +36,8 @@ pub record Skipped (s : List ℕ) (a n k : ℕ) (rest : List Line) : Type 0 wher
   pub number : k ≡ n + length passed
 
 -- from place a on, after n lines: a line and its number, where it starts and ends and where the next starts; or plain lines only
-abbrev pub Sought : List ℕ → ℕ → ℕ → Seek → Type 0
-Sought s a n (LineAt k b e x) =
-    Skipped s a (n + 1) k (record { start = b; bytes = part b e s } ∷ lines_from x (drop x s))
-    × ((b ≤ e) × ((e ≤ x) × ((a < x) × ((x ≤ length s) × (k ≤ x)))))
-Sought s a n TextEnd = all_plain (lines_from a (drop a s)) ≡ true
+abbrev pub Sought : List ℕ → ℕ → ℕ → Option LineAt → Type 0
+Sought s a n (Some p) =
+    Skipped s a (n + 1) p.number (record { start = p.start; bytes = part p.start p.end s } ∷ lines_from p.next (drop p.next s))
+    × ((p.start ≤ p.end) × ((p.end ≤ p.next) × ((a < p.next) × ((p.next ≤ length s) × (p.number ≤ p.next)))))
+Sought s a n None = all_plain (lines_from a (drop a s)) ≡ true

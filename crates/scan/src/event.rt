@@ -1,11 +1,6 @@
 // What a scan finds. Lines count from 1; a place is the count of the bytes before it.
 
-// From a place up to, not including, another.
-#[derive(Clone, Copy)]
-pub struct Part {
-    pub start: usize,
-    pub end: usize,
-}
+use text::part::Part;
 
 // A line's number, and where it starts.
 #[derive(Clone, Copy)]

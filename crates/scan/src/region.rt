@@ -3,8 +3,7 @@ ghost use Rattle.std.specs.Prelude.{◌≡◌, ◌≤◌, length};
 ghost use Rattle.scan.specs.Regions.{FoundRegion, closed_at};
 
 use crate::event::Region;
-use crate::seek::Seek;
-use crate::state::OpenRegion;
+use crate::seek::LineAt;
 use crate::{seek, state};
 use marker::line::Kind;
 
@@ -15,28 +14,18 @@ pub struct Cursor {
     pub line: usize,
 }
 
-#[derive(Clone, Copy)]
-pub enum NextRegion {
-    // A region, and the cursor after its closer.
-    Whole(Region, Cursor),
-    NoMore,
-}
-
 // The region that line n, at place o, closes, and the cursor at the next line.
-fn closed_at(region: OpenRegion, n: usize, o: usize, next: usize) -> NextRegion
+fn closed_at(region: Option<Opener>, n: usize, o: usize, next: usize) -> Option<(Region, Cursor)>
     ensures { result ≡ closed_at region n o next }
 {
     match region {
-        OpenRegion::Closed => NextRegion::NoMore,
-        OpenRegion::Open(g) => NextRegion::Whole(
-            state::closed(g, n, o),
-            Cursor { at: next, line: n },
-        ),
+        None => None,
+        Some(g) => Some((state::closed(g, n, o), Cursor { at: next, line: n })),
     }
 }
 
 // The next whole region from a cursor on.
-pub fn next_region(s: &[u8], from: Cursor) -> NextRegion
+pub fn next_region(s: &[u8], from: Cursor) -> Option<(Region, Cursor)>
     requires { (from.at ≤ length s.now) × (from.line ≤ from.at) }
     ensures { FoundRegion s.now from result }
 {
@@ -46,12 +35,14 @@ pub fn next_region(s: &[u8], from: Cursor) -> NextRegion
     loop {
         let l = seek::next_line(s, a, n);
         match l {
-            Seek::LineAt {
-                number,
-                start,
-                end,
-                next,
-            } => {
+            Some(
+                LineAt {
+                    number,
+                    start,
+                    end,
+                    next,
+                },
+            ) => {
                 let kind = state::kind_at(st, start, &s[start..end]);
                 if let Kind::Closes = kind {
                     let region = st.region;
@@ -61,8 +52,8 @@ pub fn next_region(s: &[u8], from: Cursor) -> NextRegion
                 a = next;
                 n = number;
             }
-            Seek::TextEnd => {
-                return NextRegion::NoMore;
+            None => {
+                return None;
             }
         }
     }

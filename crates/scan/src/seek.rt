@@ -7,14 +7,11 @@ use text::{bytes, lines};
 
 // A line: its number, where it starts and ends, and where the next one starts. Or the text's end.
 #[derive(Clone, Copy)]
-pub enum Seek {
-    LineAt {
-        number: usize,
-        start: usize,
-        end: usize,
-        next: usize,
-    },
-    TextEnd,
+pub struct LineAt {
+    pub number: usize,
+    pub start: usize,
+    pub end: usize,
+    pub next: usize,
 }
 
 // Whether the trace of a hint stands in s: a quicker test, which reads two bytes of three. `-` and `[` differ by 76 hex.
@@ -79,20 +76,20 @@ fn skip_blocks(s: &[u8], from: usize) -> usize
 }
 
 // The next line to look at from place a on, where a line starts after n lines.
-pub fn next_line(s: &[u8], a: usize, n: usize) -> Seek
+pub fn next_line(s: &[u8], a: usize, n: usize) -> Option<LineAt>
     requires { (a ≤ length s.now) × (n ≤ a) }
     ensures { Sought s.now a n result }
 {
     let p = skip_blocks(s, a);
     if p == s.len() {
-        return Seek::TextEnd;
+        return None;
     }
     let b = a + bytes::after_last(&s[a..p], b'\n');
     let l = lines::line(s, b, p);
-    Seek::LineAt {
+    Some(LineAt {
         number: n + bytes::count_byte(&s[a..b], b'\n') + 1,
         start: b,
         end: l.end,
         next: l.next,
-    }
+    })
 }

@@ -2,9 +2,10 @@
 ghost use Rattle.std.specs.Prelude.{◌≡◌, ◌+◌, ◌<◌, ◌^◌, length};
 ghost use Rattle.scan.specs.Scan.{begin as beginning, is_open, kind_at, after as after_kind, region_of};
 
-use crate::event::{LineStart, Part, Region};
+use crate::event::{LineStart, Region};
 use marker::line;
 use marker::line::Kind;
+use text::part::Part;
 
 // The opener of a region: its line, where its path stands, and whether it is a peer.
 #[derive(Clone, Copy)]
@@ -15,15 +16,9 @@ pub struct Opener {
 }
 
 #[derive(Clone, Copy)]
-pub enum OpenRegion {
-    Closed,
-    Open(Opener),
-}
-
-#[derive(Clone, Copy)]
 pub struct State {
     pub fence: bool,
-    pub region: OpenRegion,
+    pub region: Option<Opener>,
 }
 
 // The state before the first line.
@@ -32,16 +27,16 @@ pub fn begin() -> State
 {
     State {
         fence: false,
-        region: OpenRegion::Closed,
+        region: None,
     }
 }
 
-fn is_open(region: OpenRegion) -> bool
+fn is_open(region: Option<Opener>) -> bool
     ensures { result ≡ is_open region }
 {
     match region {
-        OpenRegion::Closed => false,
-        OpenRegion::Open(_) => true,
+        None => false,
+        Some(_) => true,
     }
 }
 
@@ -70,11 +65,11 @@ pub fn after(state: State, n: usize, o: usize, kind: Kind) -> State
         Kind::Fault(_) => state,
         Kind::Closes => State {
             fence: state.fence,
-            region: OpenRegion::Closed,
+            region: None,
         },
         Kind::Opens { start, end, peer } => State {
             fence: state.fence,
-            region: OpenRegion::Open(Opener {
+            region: Some(Opener {
                 marker: LineStart { line: n, at: o },
                 path: Part { start, end },
                 peer,

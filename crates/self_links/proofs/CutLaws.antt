@@ -1,4 +1,5 @@
 -- Laws of the bytes that a line loses. Assumes nothing.
+use Rattle.std.specs.Prelude.{Some, None}
 use Prim.Native.Nat.{ℕ, ◌+◌, ◌≤◌, ◌<◌}
 use native.Mathlib.Nat.{sub_self}
 use native.Mathlib.Omega.{arith}
@@ -10,9 +11,7 @@ use Rattle.text.proofs.BytesLaws.{part_full}
 use Rattle.text.proofs.PartLaws.{part_join, part-rest, part-drop}
 use Rattle.link.specs.Links.{FoundLink}
 use Rattle.link.specs.Target.{anchor_self}
-use Rattle.link.specs.declared.links.NextLink.TheVariants.{Link, NoLink}
 use Rattle.self_links.specs.Cuts.{linked_text, FoundCut}
-use Rattle.self_links.specs.declared.cut.Cut.TheVariants.{Bytes, NoCut}
 
 -- the bytes passed stay as they are
 pub record Passed (host dir l : List ℕ) (from i : ℕ) : Type 0 where
@@ -24,10 +23,10 @@ pub passed_start : (host dir l : List ℕ) (i : ℕ) → i ≤ length l → Pass
 passed_start host dir l i h = record { order = omega arith; within = h; same = rw sub_self }
 
 module _ {host dir l : List ℕ} {from i : ℕ} (p : Passed host dir l from i) where
-  pub passed_none : FoundLink l i NoLink → FoundCut host dir l from NoCut
+  pub passed_none : FoundLink l i None → FoundCut host dir l from None
   passed_none h = p.same ∙ rw (h (anchor_self host dir)) (part-rest l from i p.order)
 
-  module _ (a e n : ℕ) (h : FoundLink l i (Link a e)) (t : drop n (part a e l) ≡ anchor_self host dir (part a e l)) where
+  module _ (a e n : ℕ) (h : FoundLink l i (Some (record { start = a; end = e }))) (t : drop n (part a e l) ≡ anchor_self host dir (part a e l)) where
     found : linked_text host dir (drop from l) ≡ part from a l ++ (drop n (part a e l) ++ linked_text host dir (drop e l))
     found =
         p.same
@@ -40,6 +39,6 @@ module _ {host dir l : List ℕ} {from i : ℕ} (p : Passed host dir l from i) w
         same : linked_text host dir (drop from l) ≡ part from e l ++ linked_text host dir (drop e l)
         same = found ∙ rw (z, ← append_assoc (part from a l) (part a e l) (linked_text host dir (drop e l)), part_join l from a e (omega (arith, p.order, h.0.0)) h.0.1.0)
 
-    pub passed-cut : 0 < n → n ≤ length (part a e l) → FoundCut host dir l from (Bytes a (a + n) e)
+    pub passed-cut : 0 < n → n ≤ length (part a e l) → FoundCut host dir l from (Some (record { start = a; end = a + n; next = e }))
     passed-cut z k =
         ((omega (arith, p.order, h.0.0), (omega arith, (omega (arith, part_full l a e (omega (arith, h.0.1.1)), h.0.1.0), omega (arith, h.0.1.1)))), found ∙ rw (part-drop l a e n))

@@ -1,4 +1,5 @@
 -- Laws of a source that is put without the bytes that go, piece after piece. Assumes nothing.
+use Rattle.std.specs.Prelude.{Option, Some, None}
 use Prim.Native.Nat.{ℕ, ◌+◌, ◌-◌, ◌≤◌, ◌<◌}
 use native.Mathlib.Omega.{arith}
 use mathlib.Core.Path.{◌≡◌, refl, sym, ap, subst, ◌∙◌}
@@ -9,9 +10,7 @@ use Rattle.text.proofs.BytesLaws.{rest}
 use Rattle.put.specs.Put.{source_text, Able, Written, Wrote}
 use Rattle.self_links.specs.Cuts.{linked_text, FoundCut}
 use Rattle.put.specs.declared.Source.{Source}
-use Rattle.self_links.specs.declared.cut.Cut.TheVariants.{Bytes, NoCut}
 use Rattle.put.specs.declared.Room.{Room}
-use Rattle.put.specs.declared.Put.{Put}
 use Rattle.put.proofs.PutLaws.{Reached, room_at, reached_start, reached_next, reached_over, reached_last, source-length, source-same, able_on}
 
 -- a source without the bytes that go is put up to place i
@@ -28,17 +27,17 @@ module _ {source : Source} {room : Room} {c w : List ℕ} (able : Able source ro
     same = source-same able p.reached
 
     -- no more bytes go: the rest is put as it is
-    pub cutting_end : FoundCut host dir (source_text source c v) i NoCut → (u : List ℕ) (r : Put)
+    pub cutting_end : FoundCut host dir (source_text source c v) i None → (u : List ℕ) (r : Option ℕ)
         → Wrote (room_at room at) (part i (source.end - source.start) (source_text source c v)) v u r → Wrote room (linked_text host dir (source_text source c w)) w u r
     cutting_end f u r h =
         let t : part i (source.end - source.start) (source_text source c v) ≡ linked_text host dir (drop i (source_text source c w)) =
-        rw same (ap (λ (n : ℕ). part i n (source_text source c w)) (sym (source-length able)) ∙ rest (source_text source c w) i ∙ sym (subst (λ (x : List ℕ). FoundCut host dir x i NoCut) same f)) in
+        rw same (ap (λ (n : ℕ). part i n (source_text source c w)) (sym (source-length able)) ∙ rest (source_text source c w) i ∙ sym (subst (λ (x : List ℕ). FoundCut host dir x i None) same f)) in
         reached_last p.reached u r (subst (λ (x : List ℕ). Wrote (room_at room at) x v u r) t h)
 
     -- bytes go: what stands before them is put, and then what follows them up to the place from which the rest goes on
-    module _ (a e n : ℕ) (f : FoundCut host dir (source_text source c v) i (Bytes a e n)) where
-      cut : FoundCut host dir (source_text source c w) i (Bytes a e n)
-      cut = subst (λ (x : List ℕ). FoundCut host dir x i (Bytes a e n)) same f
+    module _ (a e n : ℕ) (f : FoundCut host dir (source_text source c v) i (Some (record { start = a; end = e; next = n }))) where
+      cut : FoundCut host dir (source_text source c w) i (Some (record { start = a; end = e; next = n }))
+      cut = subst (λ (x : List ℕ). FoundCut host dir x i (Some (record { start = a; end = e; next = n }))) same f
 
       pub cut_bounds : (i ≤ a) × ((a < e) × ((e ≤ n) × (n ≤ source.end - source.start)))
       cut_bounds = (cut.0.0, (cut.0.1.0, (cut.0.1.1.0, omega (arith, source-length able, cut.0.1.1.1))))

@@ -5,7 +5,7 @@ ghost use Rattle.put.specs.Put.{source_text, Able, Wrote};
 ghost use Rattle.self_links.specs.Cuts.{linked_text};
 
 use cut::Cut;
-use put::{Put, Room, Source};
+use put::{Room, Source};
 
 pub mod cut;
 mod read;
@@ -18,7 +18,7 @@ pub fn put_cuts(
     host: &[u8],
     room: Room,
     work: &mut [u8],
-) -> Put
+) -> Option<usize>
     requires { Able source room contents.now work.old }
     ensures { Wrote room (linked_text host.now dir.now (source_text source contents.now work.old)) work.old work.new result }
 {
@@ -26,7 +26,7 @@ pub fn put_cuts(
     let mut at = room.at;
     let mut i = 0;
     loop {
-        let Cut::Bytes { start, end, next } = read::cut_in(contents, work, source, i, dir, host)
+        let Some(Cut { start, end, next }) = read::cut_in(contents, work, source, i, dir, host)
         else {
             return put::put_part(
                 contents,
@@ -37,12 +37,11 @@ pub fn put_cuts(
                 work,
             );
         };
-        let Put::To(m) = put::put_part(contents, source, i, start, Room { at, limit }, work) else {
-            return Put::Over;
+        let Some(m) = put::put_part(contents, source, i, start, Room { at, limit }, work) else {
+            return None;
         };
-        let Put::To(n) = put::put_part(contents, source, end, next, Room { at: m, limit }, work)
-        else {
-            return Put::Over;
+        let Some(n) = put::put_part(contents, source, end, next, Room { at: m, limit }, work) else {
+            return None;
         };
         at = n;
         i = next;

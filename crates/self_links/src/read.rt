@@ -15,7 +15,7 @@ pub fn cut_in(
     from: usize,
     dir: &[u8],
     host: &[u8],
-) -> Cut
+) -> Option<Cut>
     requires { Inside source 0 (length contents.now) (length work.now) × (from ≤ source.end - source.start) }
     ensures { FoundCut host.now dir.now (source_text source contents.now work.now) from result }
 {

@@ -1,4 +1,5 @@
 -- Laws of a member that is compared: the table of marks that is lent and comes back, and the walk of its headings. Assumes nothing.
+use Rattle.std.specs.Prelude.{Some, Option}
 use Prim.Native.Nat.{ℕ, ◌+◌, ◌-◌, ◌≤◌, ◌<◌}
 use native.Mathlib.Nat.{zero-add}
 use native.Mathlib.Omega.{arith}
@@ -8,6 +9,7 @@ use mathlib.Core.List.{List, [], ◌++◌, append_assoc}
 use lib.ListN.{length, take, drop, length-append, length-drop}
 use lib.Seq.{take_at, drop_at, length-take-le}
 use borrow.Author.Tests.{eq-eqb, ne_eqb}
+use Rattle.member.specs.declared.lines.KeptHeading.{KeptHeading}
 use Rattle.answer.specs.Answer.{place}
 use Rattle.answer.specs.declared.Place.{Place}
 use Rattle.text.specs.Bytes.{part}
@@ -18,14 +20,12 @@ use Rattle.put.specs.Put.{source_text, Inside, part_of}
 use Rattle.put.specs.declared.Source.{Source}
 use Rattle.member.specs.Lines.{kept_lines, left_of, at_first, CursorIn, Plain, IsHeading, FoundHeading}
 use Rattle.member.specs.declared.lines.LineCursor.{LineCursor}
-use Rattle.member.specs.declared.lines.NextHeading.{NextHeading}
 use Rattle.members.specs.Members.{member_at, name_of, text_source, prepared_in, prepared_from, AllStand}
 use Rattle.members.proofs.MembersLaws.{prepared_more, prepared_up, source_up, inside-part, inside_more, text-inside}
 use Rattle.earlier.specs.Earlier.{earlier}
 use Rattle.shared.specs.Shared.{shared_in}
 use Rattle.marks.specs.Marks.{Marks}
 use Rattle.shared.specs.Tells.{TellsLines, Tells, SharedOf}
-use Rattle.shared.specs.declared.Shared.TheVariants.{At}
 use Rattle.earlier.proofs.LineLaws.{first_in, first-left, part-fits, part-text}
 use Rattle.shared.proofs.LineLaws.{shared_none, shared_next, tells_plain, tells_append, up_to, left_up, tells_up}
 use Rattle.shared.proofs.TellsLaws.{lines-still, tells_still, tells_more, earlier-none}
@@ -91,7 +91,7 @@ module _ {index contents set : List ℕ} {i table stop : ℕ} {w₀ : List ℕ} 
   pub walk_inside : CursorIn c (source_text text contents w)
   walk_inside = rw (text_same w x.same) x.inside
 
-  pub walk-found : (r : NextHeading) → FoundHeading (source_text text contents w) c r → FoundHeading (source_text text contents w₀) c r
+  pub walk-found : (r : Option KeptHeading) → FoundHeading (source_text text contents w) c r → FoundHeading (source_text text contents w₀) c r
   walk-found r h = rw (text_same w x.same) at h
 
   -- no heading is left
@@ -190,7 +190,7 @@ module _ {index contents set : List ℕ} {i table stop : ℕ} {w₀ : List ℕ} 
             one = rw x.file-is (all.stand i (omega arith)).lies.first
 
         pub walk_hit : (r : Place) → r ≡ second → (r.line ≡ 0 → ⊥)
-            → SharedOf (shared_in (prepared_from index contents w₀ set 0 i) (prepared_in index contents w₀ (member_at set i)) 1 (prepared_in index contents w₀ (member_at set i)).lines) (At (place file d.line) r)
+            → SharedOf (shared_in (prepared_from index contents w₀ set 0 i) (prepared_in index contents w₀ (member_at set i)) 1 (prepared_in index contents w₀ (member_at set i)).lines) (Some ((place file d.line), r))
         walk_hit r e z = (
           shared_in (prepared_from index contents w₀ set 0 i) (prepared_in index contents w₀ (member_at set i)) (d.line + 1) (left_of d (source_text text contents w₀)),
           x.left

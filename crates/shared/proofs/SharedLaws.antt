@@ -1,4 +1,5 @@
 -- Laws of members that are compared, one after the other. Assumes nothing.
+use Rattle.std.specs.Prelude.{Option, Some}
 use Prim.Native.Nat.{ℕ, ◌+◌, ◌-◌, ◌≤◌, ◌<◌}
 use native.Mathlib.Nat.{zero-add, sub-zero}
 use native.Mathlib.Omega.{arith}
@@ -14,8 +15,6 @@ use Rattle.members.specs.Members.{member_at, prepared_in, prepared_from, AllStan
 use Rattle.members.proofs.MembersLaws.{prepared_more, prepared_at, prepared_end, prepared_up, prepared_same, source_up}
 use Rattle.shared.specs.Shared.{shared_in, shared_from}
 use Rattle.shared.specs.Tells.{Tells, SharedOf}
-use Rattle.shared.specs.declared.Shared.{Shared}
-use Rattle.shared.specs.declared.Shared.TheVariants.{At}
 
 pub stand-first : {index set : List ℕ} {n limit stop count : ℕ} → AllStand index n limit stop set count → (k : ℕ) → k ≤ count → AllStand index n limit stop set k
 stand-first all k h = record { few = omega (arith, all.few); stand = λ i j. all.stand i (omega arith); same = λ i j a b. all.same i j (omega arith) (omega arith) }
@@ -49,7 +48,7 @@ module _ {index contents set : List ℕ} {count table stop : ℕ} {w₀ w : List
   compared_end h = x.left ∙ ap (shared_from (prepared_from index contents w₀ set 0 i)) (prepared_end index contents w₀ set i count h)
 
   -- as the work buffer was before the table was made
-  pub entry_found : (w₁ : List ℕ) → take table w₀ ≡ take table w₁ → (r : Shared)
+  pub entry_found : (w₁ : List ℕ) → take table w₀ ≡ take table w₁ → (r : Option (Place × Place))
       → SharedOf (shared_from [] (prepared_from index contents w₀ set 0 count)) r → SharedOf (shared_from [] (prepared_from index contents w₁ set 0 count)) r
   entry_found w₁ e r f = rw (prepared_up contents w₀ w₁ 0 count (omega arith) all e) at f
 
@@ -94,8 +93,8 @@ module _ {index contents set : List ℕ} {count table stop : ℕ} {w₀ w : List
     }
 
     pub turn_found : (p q : Place)
-        → SharedOf (shared_in (prepared_from index contents w set 0 i) (prepared_in index contents w (member_at set i)) 1 (prepared_in index contents w (member_at set i)).lines) (At p q)
-        → SharedOf (shared_from [] (prepared_from index contents w₀ set 0 count)) (At p q)
+        → SharedOf (shared_in (prepared_from index contents w set 0 i) (prepared_in index contents w (member_at set i)) 1 (prepared_in index contents w (member_at set i)).lines) (Some (p, q))
+        → SharedOf (shared_from [] (prepared_from index contents w₀ set 0 count)) (Some (p, q))
     turn_found p q f = (
       f.0 ++ shared_from (prepared_from index contents w₀ set 0 i ++ (prepared_in index contents w₀ (member_at set i) ∷ [])) (prepared_from index contents w₀ set (i + 1) (count - (i + 1))),
       left_at

@@ -1,5 +1,5 @@
 -- What the table of marks tells of members, and what the functions find. Nothing here is document 01's: functions promise it.
-use Rattle.std.specs.Prelude.{◌≡◌, List, [], ◌∷◌, ℕ}
+use Rattle.std.specs.Prelude.{◌≡◌, List, [], ◌∷◌, ℕ, Option, Some, None}
 use Rattle.answer.specs.declared.Refusal.{Refusal}
 use Rattle.answer.specs.declared.Refusal.TheVariants.{SharedAnchor}
 use Rattle.text.specs.Bytes.{part}
@@ -9,8 +9,6 @@ use Rattle.heading.specs.declared.walk.LineKind.TheVariants.{Quoted, Heading, Ot
 use Rattle.shift.specs.Shift.{Told}
 use Rattle.member.specs.Member.{Prepared}
 use Rattle.marks.specs.Marks.{Marked}
-use Rattle.shared.specs.declared.Shared.{Shared}
-use Rattle.shared.specs.declared.Shared.TheVariants.{Nowhere, At}
 
 -- the table tells of each heading of lines, and of members
 abbrev pub TellsKind : List ℕ → ℕ → LineKind → List ℕ → Type 0
@@ -27,11 +25,11 @@ Tells table [] = Unit {0}
 Tells table (q ∷ qs) = TellsLines table q.file q.lines × Tells table qs
 
 -- the first of refusals, or none
-abbrev pub SharedOf : List Refusal → Shared → Type 0
-SharedOf xs Nowhere = xs ≡ []
-SharedOf xs (At p q) = (ys : List Refusal) × (xs ≡ SharedAnchor p q ∷ ys)
+abbrev pub SharedOf : List Refusal → Option (Place × Place) → Type 0
+SharedOf xs None = xs ≡ []
+SharedOf xs (Some (p, q)) = (ys : List Refusal) × (xs ≡ SharedAnchor p q ∷ ys)
 
 -- where nothing was found, the table tells of members
-abbrev pub TellsAfter : Shared → List ℕ → List Prepared → Type 0
-TellsAfter Nowhere table qs = Tells table qs
-TellsAfter (At p q) table qs = Unit {0}
+abbrev pub TellsAfter : Option (Place × Place) → List ℕ → List Prepared → Type 0
+TellsAfter None table qs = Tells table qs
+TellsAfter (Some (p, q)) table qs = Unit {0}

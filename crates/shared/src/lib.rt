@@ -9,16 +9,9 @@ ghost use Rattle.shared.specs.Tells.{Tells, TellsAfter, SharedOf};
 
 use answer::Place;
 use member::lines;
-use member::lines::NextHeading;
+use member::lines::KeptHeading;
 
 mod read;
-
-// The places of a heading and of an earlier one with its anchor, or that there are none.
-#[derive(Clone, Copy)]
-pub enum Shared {
-    Nowhere,
-    At(Place, Place),
-}
 
 // The first heading of member i whose anchor an earlier member of another name has. The table of marks stands in the work buffer from a place up to another.
 fn compare_member(
@@ -29,7 +22,7 @@ fn compare_member(
     table: usize,
     stop: usize,
     work: &mut [u8],
-) -> Shared
+) -> Option<(Place, Place)>
     requires all_stand { AllStand index.now (length contents.now) 0 table set.now (i + 1) × ((table < stop) × (stop ≤ length work.old)) }
     requires tells { Tells (part table stop work.old) (prepared_from index.now contents.now work.old set.now 0 i) }
     ensures shared_of { SharedOf (shared_in (prepared_from index.now contents.now work.old set.now 0 i)
@@ -43,14 +36,16 @@ fn compare_member(
     let text = members::text_of(m);
     let mut c = lines::first();
     loop {
-        let NextHeading::Next {
-            level: _,
-            start,
-            end,
-            behind,
-        } = earlier::read::heading_in(contents, work, text, c)
+        let Some(
+            KeptHeading {
+                level: _,
+                start,
+                end,
+                behind,
+            },
+        ) = earlier::read::heading_in(contents, work, text, c)
         else {
-            return Shared::Nowhere;
+            return None;
         };
         let heading = put::part_of(text, start, end);
         let number = read::number_in(contents, work, heading);
@@ -58,7 +53,7 @@ fn compare_member(
             let second = earlier::earlier(index, contents, work, set, i, heading, table);
             if second.line != 0 {
                 let line = behind.line;
-                return Shared::At(Place { file, line }, second);
+                return Some((Place { file, line }, second));
             }
         }
         c = behind;
@@ -74,7 +69,7 @@ pub fn compare(
     table: usize,
     stop: usize,
     work: &mut [u8],
-) -> Shared
+) -> Option<(Place, Place)>
     requires { AllStand index.now (length contents.now) 0 table set.now count × ((table < stop) × (stop ≤ length work.old)) }
     ensures shared_of { SharedOf (shared_from [] (prepared_from index.now contents.now work.old set.now 0 count)) result }
     ensures work_unchanged { take table work.new ≡ take table work.old }
@@ -83,10 +78,10 @@ pub fn compare(
     let mut i = 0;
     while i < count {
         let found = compare_member(index, contents, set, i, table, stop, work);
-        if let Shared::At(_, _) = found {
+        if let Some((_, _)) = found {
             return found;
         }
         i += 1;
     }
-    Shared::Nowhere
+    None
 }

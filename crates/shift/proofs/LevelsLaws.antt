@@ -1,4 +1,5 @@
 -- Laws of `specs/Levels.antt`: levels found line by line, the first line that goes past, and the shift. Assumes nothing.
+use Rattle.std.specs.Prelude.{Option, Some, None, Ok, Err}
 use Prim.Native.Nat.{ℕ, zero, suc, ◌+◌, ◌≤◌, max}
 use native.Mathlib.Nat.{max-eq_left, max-eq_right}
 use native.Mathlib.Omega.{arith}
@@ -12,8 +13,6 @@ use Rattle.text.specs.Lines.{pieces}
 use Rattle.fence.specs.declared.Fence.{Fence}
 use Rattle.heading.specs.Walk.{walk_begin, step_kind, step_after, kinds_from}
 use Rattle.heading.specs.Level.{shallower, shallowest_of, deeper, deepest_of, shift_of, moved_to, is_past, goes_past, any_past, first_past, IsLevel}
-use Rattle.heading.specs.declared.level.TopLevel.{TopLevel}
-use Rattle.heading.specs.declared.level.TopLevel.TheVariants.{Level, NoHeading}
 use Rattle.heading.specs.declared.walk.LineKind.{LineKind}
 use Rattle.heading.specs.declared.walk.LineKind.TheVariants.{Quoted, Heading, Other}
 use Rattle.heading.specs.declared.walk.WalkState.{WalkState}
@@ -22,7 +21,6 @@ use Rattle.heading.proofs.LevelLaws.{level-lines}
 use Rattle.heading.proofs.PastLaws.{deepest-past, none-past, shift_level}
 use Rattle.shift.specs.Shift.{shift_for}
 use Rattle.shift.specs.Levels.{HasLevel, kinds_in, AreLevels, ShiftTo}
-use Rattle.shift.specs.declared.level.Shift.TheVariants.{By, PastAt}
 
 -- a line's heading has a level of 1 to 6
 pub step-level : (f : Fence) (c : Bool) (l : List ℕ) → HasLevel (step_kind f c l)
@@ -59,22 +57,22 @@ unfolding kinds_from
 kinds_turn st l ls p e f = rw (p, e, f)
 
 -- the levels found, with those of the lines that are left, are the levels of all
-pub record Found (ks rest : List LineKind) (top : TopLevel) (deepest : ℕ) : Type 0 where
-  pub shallow : shallowest_of top rest ≡ shallowest_of NoHeading ks
+pub record Found (ks rest : List LineKind) (top : Option ℕ) (deepest : ℕ) : Type 0 where
+  pub shallow : shallowest_of top rest ≡ shallowest_of None ks
   pub deep : deepest_of deepest rest ≡ deepest_of 0 ks
 
-pub found_turn : {ks rest more : List LineKind} {k : LineKind} {t u : TopLevel} {d e : ℕ} → Found ks rest t d → rest ≡ k ∷ more → u ≡ shallower t k
+pub found_turn : {ks rest more : List LineKind} {k : LineKind} {t u : Option ℕ} {d e : ℕ} → Found ks rest t d → rest ≡ k ∷ more → u ≡ shallower t k
     → e ≡ deeper d k → Found ks more u e
 unfolding shallowest_of deepest_of
 found_turn f p q r = record { shallow = rw q (rw p at f.shallow); deep = rw r (rw p at f.deep) }
 
-pub found_all : (s : List ℕ) (st : WalkState) {t : TopLevel} {d : ℕ} → Found (kinds_in s) (kinds_from st []) t d → AreLevels (kinds_in s) t d
+pub found_all : (s : List ℕ) (st : WalkState) {t : Option ℕ} {d : ℕ} → Found (kinds_in s) (kinds_from st []) t d → AreLevels (kinds_in s) t d
 unfolding shallowest_of deepest_of kinds_from
 found_all s st f =
     record {
       shallow = f.shallow;
       deep = f.deep;
-      level = subst IsLevel (sym f.shallow) (level-lines NoHeading walk_begin (pieces s) tt);
+      level = subst IsLevel (sym f.shallow) (level-lines None walk_begin (pieces s) tt);
       small = omega (arith, f.deep, deepest-small 0 walk_begin (pieces s) (omega arith));
     }
 
@@ -102,26 +100,26 @@ unfolding any_past kinds_from
 ahead_last {z} {k = k} st h p = ahead_here h p (sym (rw (p, or-false) at h.some))
 
 -- x is the shift to a target
-module _ (s : List ℕ) (target : ℕ) {top : TopLevel} {d : ℕ} (a : AreLevels (kinds_in s) top d) (x : ℤ) (r : x ≡ shift_of target top) where
+module _ (s : List ℕ) (target : ℕ) {top : Option ℕ} {d : ℕ} (a : AreLevels (kinds_in s) top d) (x : ℤ) (r : x ≡ shift_of target top) where
   shift_is : x ≡ shift_for target (kinds_in s)
   shift_is = r ∙ ap (shift_of target) a.shallow
 
   -- a heading goes past where the deepest does
-  pub shift_past : {b : Bool} (n : ℕ) → top ≡ Level n → 1 ≤ target → b ≡ is_past (moved_to (pos d +ℤ x)) → any_past x (kinds_in s) ≡ b
+  pub shift_past : {b : Bool} (n : ℕ) → top ≡ Some n → 1 ≤ target → b ≡ is_past (moved_to (pos d +ℤ x)) → any_past x (kinds_in s) ≡ b
   shift_past n q h p = go target h (r ∙ ap (shift_of target) q) ∙ sym p
     where
-      go : (t : ℕ) → 1 ≤ t → x ≡ shift_of t (Level n) → any_past x (kinds_in s) ≡ is_past (moved_to (pos d +ℤ x))
+      go : (t : ℕ) → 1 ≤ t → x ≡ shift_of t (Some n) → any_past x (kinds_in s) ≡ is_past (moved_to (pos d +ℤ x))
       go zero k e = absurd (omega arith)
-      go (suc m) k e = rw (a.deep, e) (deepest-past n m (shift_of (suc m) (Level n)) (shift_level (suc m) n) (kinds_in s) (sym a.shallow ∙ q))
+      go (suc m) k e = rw (a.deep, e) (deepest-past n m (shift_of (suc m) (Some n)) (shift_level (suc m) n) (kinds_in s) (sym a.shallow ∙ q))
 
   -- with no heading none does
-  pub shift_none : top ≡ NoHeading → any_past x (kinds_in s) ≡ false
+  pub shift_none : top ≡ None → any_past x (kinds_in s) ≡ false
   shift_none q = none-past x (kinds_in s) (sym a.shallow ∙ q)
 
   -- the answers
-  pub shift_by : mag x ≤ 7 → any_past x (kinds_in s) ≡ false → ShiftTo s target (By x)
+  pub shift_by : mag x ≤ 7 → any_past x (kinds_in s) ≡ false → ShiftTo s target (Ok x)
   shift_by m p = (shift_is, (m, ap (λ (z : ℤ). any_past z (kinds_in s)) (sym shift_is) ∙ p))
 
-  pub shift_past_at : {n : ℕ} → any_past x (kinds_in s) ≡ true → n ≡ 1 + first_past x (kinds_in s) → ShiftTo s target (PastAt n)
+  pub shift_past_at : {n : ℕ} → any_past x (kinds_in s) ≡ true → n ≡ 1 + first_past x (kinds_in s) → ShiftTo s target (Err n)
   shift_past_at p q =
       (ap (λ (z : ℤ). any_past z (kinds_in s)) (sym shift_is) ∙ p, q ∙ ap (λ (z : ℤ). 1 + first_past z (kinds_in s)) shift_is)

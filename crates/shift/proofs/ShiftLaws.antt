@@ -1,4 +1,5 @@
 -- Laws of `specs/Shift.antt`: told lines, blank lines at the ends, and 16. Assumes nothing.
+use Rattle.std.specs.Prelude.{Option, Some, None}
 use Prim.Native.Nat.{ℕ, zero, suc, ◌+◌}
 use native.Mathlib.Omega.{arith}
 use mathlib.Core.Path.{◌≡◌, refl, sym, ap, ◌∙◌}
@@ -11,10 +12,6 @@ use Rattle.answer.specs.declared.Refusal.{Refusal}
 use Rattle.text.specs.Space.{is_blank}
 use Rattle.heading.specs.Walk.{step_kind, step_after, kinds_from, still_kind}
 use Rattle.heading.specs.Level.{shallower, shallowest_of, moved_to, deeper, deepest_of, is_past, goes_past, any_past, first_past}
-use Rattle.heading.specs.declared.level.TopLevel.{TopLevel}
-use Rattle.heading.specs.declared.level.TopLevel.TheVariants.{Level, NoHeading}
-use Rattle.heading.specs.declared.level.Moved.{Moved}
-use Rattle.heading.specs.declared.level.Moved.TheVariants.{To, Past}
 use Rattle.fence.specs.declared.Fence.{Fence}
 use Rattle.heading.specs.declared.walk.LineKind.{LineKind}
 use Rattle.heading.specs.declared.walk.LineKind.TheVariants.{Quoted, Heading, Other}
@@ -74,7 +71,7 @@ module _ {C : Type 0} (step : C → LineKind → C) (F : C → List LineKind →
 
 module _ (st : WalkState) (ls : List (List ℕ)) where
   -- the shallowest level without blank ends
-  pub shallowest_ends : (b : TopLevel) → shallowest_of b (kinds_of (told_from st (drop_end (drop_start ls)))) ≡ shallowest_of b (kinds_from st ls)
+  pub shallowest_ends : (b : Option ℕ) → shallowest_of b (kinds_of (told_from st (drop_end (drop_start ls)))) ≡ shallowest_of b (kinds_from st ls)
   unfolding shallowest_of
   shallowest_ends b = gather_ends shallower shallowest_of (λ c k ks. refl) still-shallower b st ls
 
@@ -89,9 +86,9 @@ line-past z Quoted x = refl
 line-past z Other x = refl
 line-past z (Heading n a e) x = go (moved_to (pos n +ℤ z))
   where
-    go : (y : Moved) → past y x ≡ cond (is_past y) (x ∷ []) []
-    go (To m) = refl
-    go Past = refl
+    go : (y : Option ℕ) → past y x ≡ cond (is_past y) (x ∷ []) []
+    go (Some m) = refl
+    go None = refl
 
 module _ (f : ℕ → Refusal) (z : ℤ) where
   -- no line goes past: no refusal
@@ -119,7 +116,7 @@ module _ (f : ℕ → Refusal) (z : ℤ) where
           (h.0, rw (← y) h.1)
 
   -- where the shallowest goes to level 1 or more: no refusal exactly when the deepest stays
-  pub past-deepest : (n : ℕ) (ks : List LineKind) (t m : ℕ) → shallowest_of NoHeading ks ≡ Level t → pos t +ℤ z ≡ pos (suc m)
+  pub past-deepest : (n : ℕ) (ks : List LineKind) (t m : ℕ) → shallowest_of None ks ≡ Some t → pos t +ℤ z ≡ pos (suc m)
       → (past_from f n z ks ≡ []) ↔ (is_past (moved_to (pos (deepest_of 0 ks) +ℤ z)) ≡ false)
   past-deepest n ks t m h e = rw (← deepest-past t m z e ks h) (go (any_past z ks) refl, past-none n ks)
     where
@@ -128,6 +125,6 @@ module _ (f : ℕ → Refusal) (z : ℤ) where
       go false q p = q
 
   -- else the first is at the first line that goes past
-  pub past_first : (n : ℕ) (ks : List LineKind) (t m : ℕ) → shallowest_of NoHeading ks ≡ Level t → pos t +ℤ z ≡ pos (suc m)
+  pub past_first : (n : ℕ) (ks : List LineKind) (t m : ℕ) → shallowest_of None ks ≡ Some t → pos t +ℤ z ≡ pos (suc m)
       → is_past (moved_to (pos (deepest_of 0 ks) +ℤ z)) ≡ true → (xs : List Refusal) × (past_from f n z ks ≡ f (n + first_past z ks) ∷ xs)
   past_first n ks t m h e q = past-some n ks (deepest-past t m z e ks h ∙ q)

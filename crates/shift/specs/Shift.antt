@@ -1,13 +1,10 @@
 -- Lines with what they are, and headings moved: shared by a file that is taken in and a member that is assembled.
-use Rattle.std.specs.Prelude.{ℕ, zero, suc, ◌+◌, cond, List, [], ◌∷◌, ◌++◌, map, take, drop, ℤ, pos, ◌+ℤ◌}
+use Rattle.std.specs.Prelude.{ℕ, zero, suc, ◌+◌, cond, List, [], ◌∷◌, ◌++◌, map, take, drop, ℤ, pos, ◌+ℤ◌, Option, Some, None}
 use Rattle.answer.specs.declared.Refusal.{Refusal}
 use Rattle.text.specs.Bytes.{part}
 use Rattle.text.specs.Space.{is_blank}
 use Rattle.heading.specs.Level.{shallowest_of, shift_of, moved_to, heading_line}
 use Rattle.heading.specs.Walk.{step_kind, step_after, walk_begin}
-use Rattle.heading.specs.declared.level.TopLevel.TheVariants.{NoHeading}
-use Rattle.heading.specs.declared.level.Moved.{Moved}
-use Rattle.heading.specs.declared.level.Moved.TheVariants.{To, Past}
 use Rattle.heading.specs.declared.walk.LineKind.{LineKind}
 use Rattle.heading.specs.declared.walk.LineKind.TheVariants.{Quoted, Heading, Other}
 use Rattle.heading.specs.declared.walk.WalkState.{WalkState}
@@ -26,20 +23,20 @@ kinds_of ts = map (λ t. t.kind) ts
 
 -- "The shift is a signed number: target less shallowest level, 0 without headings."
 abbrev pub shift_for : ℕ → List LineKind → ℤ
-shift_for target ks = shift_of target (shallowest_of NoHeading ks)
+shift_for target ks = shift_of target (shallowest_of None ks)
 
 -- "Each heading becomes its new hashes, one space, its text, even at shift 0."
-abbrev pub at_level : Moved → List ℕ → List ℕ → List ℕ
-at_level (To n) text l = heading_line n text
-at_level Past text l = l
+abbrev pub at_level : Option ℕ → List ℕ → List ℕ → List ℕ
+at_level (Some n) text l = heading_line n text
+at_level None text l = l
 
 abbrev pub moved_line : ℤ → Told → List ℕ
 moved_line z t = elim t.kind [ Quoted ↦ t.bytes | Heading n a e ↦ at_level (moved_to (pos n +ℤ z)) (part a e t.bytes) t.bytes | Other ↦ t.bytes ]
 
 -- 16 "heading past level 6", for each such line; the lines count from n
-abbrev pub past : Moved → Refusal → List Refusal
-past (To n) x = []
-past Past x = x ∷ []
+abbrev pub past : Option ℕ → Refusal → List Refusal
+past (Some n) x = []
+past None x = x ∷ []
 
 abbrev pub past_line : ℤ → LineKind → Refusal → List Refusal
 past_line z Quoted x = []

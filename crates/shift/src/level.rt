@@ -4,22 +4,14 @@ ghost use Rattle.std.specs.Int.Signed.{mag};
 ghost use Rattle.heading.specs.Level.{shallower, deeper as deeper_of, is_past, moved_to, goes_past, any_past, first_past};
 ghost use Rattle.shift.specs.Levels.{HasLevel, kinds_in, AreLevels, ShiftTo};
 
-use heading::level::{Moved, TopLevel};
 use heading::walk::LineKind;
 use heading::{level, walk};
 use text::lines;
 
-// The shift, or the first line whose heading it takes past level 6.
-#[derive(Clone, Copy)]
-pub enum Shift {
-    By(i32),
-    PastAt(usize),
-}
-
 // The shallowest level of headings, and the deepest, 0 where there is none.
 #[derive(Clone, Copy)]
 pub struct Levels {
-    pub top: TopLevel,
+    pub top: Option<usize>,
     pub deepest: usize,
 }
 
@@ -58,7 +50,7 @@ fn levels_of(s: &[u8]) -> Levels
     ensures { AreLevels (kinds_in s.now) result.top result.deepest }
 {
     let mut found = Levels {
-        top: TopLevel::NoHeading,
+        top: None,
         deepest: 0,
     };
     let mut state = walk::begin();
@@ -83,8 +75,8 @@ pub fn is_past(level: usize, shift: i32) -> bool
     ensures { result ≡ is_past (moved_to (pos level +ℤ shift)) }
 {
     match level::shifted(level, shift) {
-        Moved::To(_) => false,
-        Moved::Past => true,
+        Some(_) => false,
+        None => true,
     }
 }
 
@@ -130,7 +122,7 @@ fn past_line(s: &[u8], shift: i32) -> usize
 }
 
 // The shift of a text's headings that takes the shallowest to the target.
-pub fn shift_of(s: &[u8], target: usize) -> Shift
+pub fn shift_of(s: &[u8], target: usize) -> Result<i32, usize>
     requires { (1 ≤ target) × (target ≤ 7) }
     ensures { ShiftTo s.now target result }
 {
@@ -138,12 +130,12 @@ pub fn shift_of(s: &[u8], target: usize) -> Shift
     let top = found.top;
     let shift = level::shift_to(target, top);
     match top {
-        TopLevel::Level(_) => {
+        Some(_) => {
             if is_past(found.deepest, shift) {
-                return Shift::PastAt(past_line(s, shift));
+                return Err(past_line(s, shift));
             }
-            Shift::By(shift)
+            Ok(shift)
         }
-        TopLevel::NoHeading => Shift::By(shift),
+        None => Ok(shift),
     }
 }

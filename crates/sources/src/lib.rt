@@ -8,14 +8,12 @@ ghost use Rattle.resolve.specs.Resolve.{Resolves};
 ghost use Rattle.link.specs.Target.{target_of};
 ghost use Rattle.put.specs.Put.{source_text, Inside};
 
-use anchor::{AnchorByte, AnchorCursor};
+use anchor::AnchorCursor;
 use link::target;
-use link::target::Target;
 use put::Source;
-use resolve::Resolved;
 
 // A target taken apart.
-pub fn target_in(contents: &[u8], work: &[u8], target: Source) -> Target
+pub fn target_in(contents: &[u8], work: &[u8], target: Source) -> Option<usize>
     requires { Inside target 0 (length contents.now) (length work.now) }
     ensures { result ≡ target_of (source_text target contents.now work.now) }
 {
@@ -34,7 +32,7 @@ pub fn resolve_in(
     path: Source,
     dir: &[u8],
     out: &mut [u8],
-) -> Resolved
+) -> Option<usize>
     requires { Inside path 0 (length contents.now) (length work.now) }
     ensures { Resolves dir.now (source_text path contents.now work.now) out.new result }
 {
@@ -74,7 +72,12 @@ pub fn anchor_in(contents: &[u8], work: &[u8], title: Source) -> AnchorCursor
 }
 
 // The next byte of the anchor of a title.
-pub fn byte_in(contents: &[u8], work: &[u8], title: Source, from: AnchorCursor) -> AnchorByte
+pub fn byte_in(
+    contents: &[u8],
+    work: &[u8],
+    title: Source,
+    from: AnchorCursor,
+) -> Option<(u8, AnchorCursor)>
     requires { Inside title 0 (length contents.now) (length work.now) × CursorWithin from (source_text title contents.now work.now) }
     ensures { NextByte (source_text title contents.now work.now) from result }
 {

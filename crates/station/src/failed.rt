@@ -4,7 +4,6 @@ ghost use Rattle.std.specs.Prelude.{◌≤◌, length};
 use std::io;
 use std::io::Write;
 use text::pattern;
-use text::pattern::Found;
 
 // Puts the words for an error at the start of a buffer and answers their length. The number that std writes behind them is left out.
 fn put_words(error: io::Error, out: &mut [u8]) -> usize
@@ -15,7 +14,7 @@ fn put_words(error: io::Error, out: &mut [u8]) -> usize
     let _ = write!(rest, "{error}");
     let end = room.saturating_sub(rest.len());
     match pattern::find(&out[..end], b" (os error ") {
-        Found::At(at) if at < end => at,
+        Some(at) if at < end => at,
         _ => end,
     }
 }

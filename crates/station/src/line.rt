@@ -9,13 +9,13 @@ use text::lines;
 
 // Where something starts and ends.
 #[derive(Clone, Copy)]
-pub struct Extent {
+pub struct Part {
     pub start: usize,
     pub end: usize,
 }
 
 // The line with a number, counted from 1, between LFs; nothing where there is none.
-pub fn line_at(s: &[u8], number: usize) -> Extent
+pub fn line_at(s: &[u8], number: usize) -> Part
     ensures s_value { part result.start result.end s.now ≡ nth_line number (pieces s.now) }
     ensures start_le_end { (result.start ≤ result.end) × (result.end ≤ length s.now) }
 {
@@ -25,7 +25,7 @@ pub fn line_at(s: &[u8], number: usize) -> Extent
         let p = lines::piece(s, at);
         left -= 1;
         if left == 0 {
-            return Extent {
+            return Part {
                 start: at,
                 end: p.end,
             };
@@ -35,11 +35,11 @@ pub fn line_at(s: &[u8], number: usize) -> Extent
         }
         at = p.end + 1;
     }
-    Extent { start: 0, end: 0 }
+    Part { start: 0, end: 0 }
 }
 
 // Where the path stands on a line that opens a region; the whole line where it opens none.
-pub fn named_on(line: &[u8]) -> Extent
+pub fn named_on(line: &[u8]) -> Part
     ensures line_value { part result.start result.end line.now ≡ named_on line.now }
     ensures start_le_end { (result.start ≤ result.end) × (result.end ≤ length line.now) }
 {
@@ -49,9 +49,9 @@ pub fn named_on(line: &[u8]) -> Extent
         peer: _,
     } = marker::line::kind_of(line, 0, false, false)
     {
-        return Extent { start, end };
+        return Part { start, end };
     }
-    Extent {
+    Part {
         start: 0,
         end: line.len(),
     }

@@ -1,9 +1,8 @@
 -- A stored case of a call with a walk: what its numbers keep to.
-use Rattle.std.specs.Prelude.{◌≤◌}
+use Rattle.std.specs.Prelude.{◌≤◌, Option, Some, None}
+use Rattle.stored.specs.declared.case.Case.{Case}
 use Rattle.stored.specs.declared.case.Starts.{Starts}
 use Rattle.stored.specs.declared.case.Limits.{Limits}
-use Rattle.stored.specs.declared.case.NextCase.{NextCase}
-use Rattle.stored.specs.declared.case.NextCase.TheVariants.{Handed, Nothing}
 
 -- the texts stand one behind the other
 pub record InOrder (at : Starts) : Type 0 where
@@ -19,6 +18,6 @@ pub record Small (at : Starts) (limits : Limits) : Type 0 where
   pub work : limits.work ≤ 65536
   pub allowance : limits.allowance ≤ 999999
 
-abbrev pub SmallCase : NextCase → Type 0
-SmallCase (Handed at limits) = Small at limits
-SmallCase Nothing = Unit {0}
+abbrev pub SmallCase : Option Case → Type 0
+SmallCase (Some p) = Small p.at p.limits
+SmallCase None = Unit {0}

@@ -2,9 +2,8 @@
 ghost use Rattle.std.specs.Prelude.{◌≡◌, ◌≤◌, length, IfOk};
 ghost use Rattle.stored.specs.Case.{InOrder, Small, SmallCase};
 
-use crate::header::Header;
 use crate::{header, print};
-use answer::Answer;
+use answer::{Answer, Refusal};
 use std::io;
 use std::io::{Read, Write};
 
@@ -36,16 +35,16 @@ pub struct Limits {
 
 // A case, or that there is none: at the input's end, or where it is ill formed or too large, which is printed.
 #[derive(Clone, Copy)]
-pub enum NextCase {
-    Handed { at: Starts, limits: Limits },
-    Nothing,
+pub struct Case {
+    pub at: Starts,
+    pub limits: Limits,
 }
 
-fn ill_formed(to: &mut impl Write) -> io::Result<NextCase>
+fn ill_formed(to: &mut impl Write) -> io::Result<Option<Case>>
     ensures { IfOk result SmallCase }
 {
     crate::print_ill_formed(to)?;
-    Ok(NextCase::Nothing)
+    Ok(None)
 }
 
 // Zeros for what is handed in. The `ensures` gives only the length, which lending a part of it needs.
@@ -77,7 +76,7 @@ pub fn print_numbers(to: &mut impl Write, numbers: [u64; 6], out: &[u8]) -> io::
     Ok(())
 }
 
-pub fn print_answer(to: &mut impl Write, a: Answer, out: &[u8]) -> io::Result<()> {
+pub fn print_answer(to: &mut impl Write, a: Result<Answer, Refusal>, out: &[u8]) -> io::Result<()> {
     print_numbers(to, answer::numbers(a), out)
 }
 
@@ -118,7 +117,7 @@ fn starts_of(index: usize, contents: usize, third: usize, fourth: usize) -> Star
 }
 
 // A case, if there is memory for it.
-fn small_case(to: &mut impl Write, at: Starts, limits: Limits) -> io::Result<NextCase>
+fn small_case(to: &mut impl Write, at: Starts, limits: Limits) -> io::Result<Option<Case>>
     requires { InOrder at }
     ensures { IfOk result SmallCase }
 {
@@ -134,27 +133,27 @@ fn small_case(to: &mut impl Write, at: Starts, limits: Limits) -> io::Result<Nex
     if MOST_ALLOWANCE < limits.allowance {
         return ill_formed(to);
     }
-    Ok(NextCase::Handed { at, limits })
+    Ok(Some(Case { at, limits }))
 }
 
 // Reads four headers.
-fn next_case(from: &mut impl Read, to: &mut impl Write) -> io::Result<NextCase>
+fn next_case(from: &mut impl Read, to: &mut impl Write) -> io::Result<Option<Case>>
     ensures { IfOk result SmallCase }
 {
     let mut bytes = [0u8; 56];
     if !crate::is_filled(from, &mut bytes)? {
-        return Ok(NextCase::Nothing);
+        return Ok(None);
     }
-    let Header::Numbers(index, contents) = header::parse(&bytes[..14]) else {
+    let Some((index, contents)) = header::parse(&bytes[..14]) else {
         return ill_formed(to);
     };
-    let Header::Numbers(third, fourth) = header::parse(&bytes[14..28]) else {
+    let Some((third, fourth)) = header::parse(&bytes[14..28]) else {
         return ill_formed(to);
     };
-    let Header::Numbers(limit, allowance) = header::parse(&bytes[28..42]) else {
+    let Some((limit, allowance)) = header::parse(&bytes[28..42]) else {
         return ill_formed(to);
     };
-    let Header::Numbers(out, work) = header::parse(&bytes[42..]) else {
+    let Some((out, work)) = header::parse(&bytes[42..]) else {
         return ill_formed(to);
     };
     let limits = Limits {
@@ -171,16 +170,16 @@ pub fn read_case(
     from: &mut impl Read,
     to: &mut impl Write,
     given: &mut [u8],
-) -> io::Result<NextCase>
+) -> io::Result<Option<Case>>
     requires { 16384 ≤ length given.old }
     ensures { IfOk result SmallCase }
 {
-    let NextCase::Handed { at, limits } = next_case(from, to)? else {
-        return Ok(NextCase::Nothing);
+    let Some(Case { at, limits }) = next_case(from, to)? else {
+        return Ok(None);
     };
     let end = at.end;
     if !read_given(from, to, &mut given[..end])? {
-        return Ok(NextCase::Nothing);
+        return Ok(None);
     }
-    Ok(NextCase::Handed { at, limits })
+    Ok(Some(Case { at, limits }))
 }

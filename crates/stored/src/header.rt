@@ -3,36 +3,29 @@ ghost use Rattle.std.specs.Prelude.{◌≡◌, length};
 ghost use Rattle.stored.specs.Header.{numbers_of, header_of};
 
 use buffer::decimal;
-use buffer::decimal::Number;
 
-#[derive(Clone, Copy)]
-pub enum Header {
-    Numbers(usize, usize),
-    IllFormed,
-}
-
-fn numbers_of(first: Number, second: Number) -> Header
+fn numbers_of(first: Option<usize>, second: Option<usize>) -> Option<(usize, usize)>
     ensures { result ≡ numbers_of first second }
 {
-    let Number::Is(a) = first else {
-        return Header::IllFormed;
+    let Some(a) = first else {
+        return None;
     };
-    let Number::Is(b) = second else {
-        return Header::IllFormed;
+    let Some(b) = second else {
+        return None;
     };
-    Header::Numbers(a, b)
+    Some((a, b))
 }
 
 #[tactic(auto, unfolding(crate::specs::Header::header_of))]
-pub fn parse(s: &[u8]) -> Header
+pub fn parse(s: &[u8]) -> Option<(usize, usize)>
     requires { length s.now ≡ 14 }
     ensures { result ≡ header_of s.now }
 {
     if s[6] != b' ' {
-        return Header::IllFormed;
+        return None;
     }
     if s[13] != b'\n' {
-        return Header::IllFormed;
+        return None;
     }
     numbers_of(decimal::parse(&s[..6]), decimal::parse(&s[7..13]))
 }

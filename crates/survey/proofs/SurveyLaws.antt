@@ -1,4 +1,5 @@
 -- Laws of `specs/Surveys.antt`: what a survey gathers is what `scanned` says; a turn of the survey; the text's end. Assumes nothing.
+use Rattle.std.specs.Prelude.{Option, Some, None, Result, Ok, Err}
 use Prim.Native.Nat.{ℕ, zero, suc, ◌+◌, ◌-◌, ◌<◌}
 use native.Mathlib.Omega.{arith}
 use mathlib.Core.Path.{◌≡◌, refl, sym, ap, ◌∙◌, subst}
@@ -7,6 +8,7 @@ use mathlib.Core.List.{List, [], ◌∷◌, ◌++◌, map}
 use lib.ListN.{length, take, drop}
 use lib.Dec.{eqb}
 use borrow.Author.Tests.{ne_eqb}
+use Rattle.marker.specs.declared.line.Fragment.{Fragment}
 use Rattle.answer.specs.Answer.{place}
 use Rattle.answer.specs.declared.Refusal.{Refusal}
 use Rattle.answer.specs.declared.Refusal.TheVariants.{NestedRegion, FragmentMarker}
@@ -14,12 +16,8 @@ use Rattle.text.specs.Bytes.{part}
 use Rattle.text.specs.Pattern.{starts_with, bytes, find, contains, equals}
 use Rattle.text.specs.Space.{trim}
 use Rattle.text.specs.Lines.{lines_from}
-use Rattle.text.specs.declared.pattern.Found.{Found}
-use Rattle.text.specs.declared.pattern.Found.TheVariants.{At, Nothing}
 use Rattle.fence.specs.Fences.{is_fence}
 use Rattle.marker.specs.Marker.{OPEN, SPEC-END, CLOSE, OPEN-FRAGMENT, text_of, spec_of, mark_of, first_of, next_mark, fragment_of, fragment_kind, marked_kind, kind_of}
-use Rattle.marker.specs.declared.line.Fragment.{Fragment}
-use Rattle.marker.specs.declared.line.Fragment.TheVariants.{Path, Other}
 use Rattle.marker.specs.declared.line.Kind.{Kind}
 use Rattle.marker.specs.declared.line.Kind.TheVariants.{Plain, Fence, Fault, Closes, Opens, Spans}
 use Rattle.marker.specs.declared.span.Mark.{Mark}
@@ -33,9 +31,6 @@ use Rattle.scan.specs.declared.event.Event.{Event}
 use Rattle.scan.specs.declared.event.Event.TheVariants.{OfSpan, OfRegion, OfProblem}
 use Rattle.scan.specs.declared.event.Region.{Region}
 use Rattle.scan.specs.declared.event.Span.{Span}
-use Rattle.scan.specs.declared.seek.Seek.TheVariants.{LineAt, TextEnd}
-use Rattle.scan.specs.declared.state.OpenRegion.{OpenRegion}
-use Rattle.scan.specs.declared.state.OpenRegion.TheVariants.{Closed, Open}
 use Rattle.scan.specs.declared.state.State.{State}
 use Rattle.scan.proofs.ScanLaws.{sought_line, sought_end}
 use Rattle.index.specs.Index.{File, file_of}
@@ -44,7 +39,7 @@ use Rattle.regions.specs.Regions.{refusal_of, problems_of, regions_from, scanned
 use Rattle.survey.specs.Surveys.{survey_of, wrong_or, survey_from, fault_of, closes, survey_end}
 use Rattle.regions.specs.Hosts.{host_rest, start_cursor}
 use Rattle.survey.specs.declared.Surveyed.{Surveyed}
-use Rattle.survey.specs.declared.Surveyed.TheVariants.{Wrong, NoRegion, Regions}
+use Rattle.survey.specs.declared.Surveyed.TheVariants.{NoRegion, Regions}
 
 -- the problems of spans are none of 1 to 5
 abbrev LateMark : Mark → Type 0
@@ -52,20 +47,20 @@ LateMark (Marked a e c d) = Unit {0}
 LateMark (Problem k) = 5 < k
 LateMark End = Unit {0}
 
-late_text : (o j : ℕ) (b : List ℕ) (f : Found) → LateMark (text_of o j b f)
+late_text : (o j : ℕ) (b : List ℕ) (f : Option ℕ) → LateMark (text_of o j b f)
 unfolding text_of
-late_text o j b Nothing = omega arith
-late_text o j b (At k) = go (contains OPEN (take k b)) (eqb j 0)
+late_text o j b None = omega arith
+late_text o j b (Some k) = go (contains OPEN (take k b)) (eqb j 0)
   where
     go : (x y : Bool) → LateMark (cond x (Problem 9) (cond y (Problem 10) (Marked o (o + j) (o + j + 4) (o + j + 4 + k))))
     go true y = omega arith
     go false true = omega arith
     go false false = tt
 
-late_spec : (o : ℕ) (b : List ℕ) (f : Found) → LateMark (spec_of o b f)
+late_spec : (o : ℕ) (b : List ℕ) (f : Option ℕ) → LateMark (spec_of o b f)
 unfolding spec_of
-late_spec o b Nothing = omega arith
-late_spec o b (At j) = late_text o j (drop (j + 4) b) (find CLOSE (drop (j + 4) b))
+late_spec o b None = omega arith
+late_spec o b (Some j) = late_text o j (drop (j + 4) b) (find CLOSE (drop (j + 4) b))
 
 late_mark : (o : ℕ) (b : List ℕ) → LateMark (mark_of o b)
 unfolding mark_of
@@ -79,9 +74,9 @@ late_next : (o : ℕ) (r : List ℕ) → LateMark (next_mark o r)
 unfolding next_mark first_of
 late_next o r = go (find OPEN r)
   where
-    go : (f : Found) → LateMark (first_of o r f)
-    go Nothing = tt
-    go (At i) = late_mark (o + i + 5) (drop (i + 5) r)
+    go : (f : Option ℕ) → LateMark (first_of o r f)
+    go None = tt
+    go (Some i) = late_mark (o + i + 5) (drop (i + 5) r)
 
 abbrev LateStop : Stop → Type 0
 LateStop (AtProblem k) = 5 < k
@@ -106,11 +101,11 @@ LowKind Closes = Unit {0}
 LowKind (Opens a e peer) = Unit {0}
 LowKind (Spans i) = Unit {0}
 
-low_fragment : (inside : Bool) (i : ℕ) (l : List ℕ) (f : Fragment) → LowKind (fragment_kind inside i l f)
+low_fragment : (inside : Bool) (i : ℕ) (l : List ℕ) (f : Option Fragment) → LowKind (fragment_kind inside i l f)
 unfolding fragment_kind
-low_fragment true i l (Path a e peer) = omega arith
-low_fragment false i l (Path a e peer) = tt
-low_fragment inside i l Other = by (contains OPEN-FRAGMENT l)
+low_fragment true i l (Some p) = omega arith
+low_fragment false i l (Some p) = tt
+low_fragment inside i l None = by (contains OPEN-FRAGMENT l)
   where
     by : (x : Bool) → LowKind (cond x (Fault 3) (Spans i))
     by true = omega arith
@@ -125,10 +120,10 @@ low_kind fence inside o l = by (is_fence l) (find OPEN l)
     marked false true k h = tt
     marked false false k h = h
 
-    by : (x : Bool) (f : Found) → LowKind (cond x Fence (marked_kind fence inside o l f))
+    by : (x : Bool) (f : Option ℕ) → LowKind (cond x Fence (marked_kind fence inside o l f))
     by true f = tt
-    by false (At i) = marked fence (inside && equals CLOSE (trim l)) (fragment_kind inside i l (fragment_of o l)) (low_fragment inside i l (fragment_of o l))
-    by false Nothing = tt
+    by false (Some i) = marked fence (inside && equals CLOSE (trim l)) (fragment_kind inside i l (fragment_of o l)) (low_fragment inside i l (fragment_of o l))
+    by false None = tt
 
 -- a problem that is none of 2 to 4 is passed over
 passed_over : (any : Bool) (f n k : ℕ) (es : List Event) → (k ≡ 2 → ⊥) → (k ≡ 3 → ⊥) → (k ≡ 4 → ⊥) → survey_from any f (OfProblem n k ∷ es) ≡ survey_from any f es
@@ -164,54 +159,54 @@ line_over any f st n o l (Fault k) es e x y =
     passed_over any f n k es x y (λ z. omega arith) ∙ rw (or-false any)
 line_over any f st n o l Closes es e x y = rw (or-true any) (go st.region (kind-closes st.fence (is_open st.region) o l (sym e)).1)
   where
-    go : (r : OpenRegion) → is_open r ≡ true → survey_from any f (closed_by n o r ++ es) ≡ survey_from true f es
-    go Closed q = absurd (false≢true q)
-    go (Open g) q = refl
+    go : (r : Option Opener) → is_open r ≡ true → survey_from any f (closed_by n o r ++ es) ≡ survey_from true f es
+    go None q = absurd (false≢true q)
+    go (Some g) q = refl
 line_over any f st n o l (Opens a d peer) es e x y = rw (or-false any)
 line_over any f st n o l (Spans i) es e x y =
     rw (or-false any)
     (spans_over any f n (read_line n (o + i) (drop i l)).spans (read_line n (o + i) (drop i l)).stop es
     (late_read (length (drop i l)) n (o + i) (drop i l)))
 
-last_survey : (any : Bool) (f k : ℕ) (region : OpenRegion) (fence : Bool)
+last_survey : (any : Bool) (f k : ℕ) (region : Option Opener) (fence : Bool)
     → survey_from any f (last_of (record { fence = fence; region = region }) k) ≡ survey_end any f region
 unfolding survey_from last_of
-last_survey any f k Closed true = refl
-last_survey any f k Closed false = refl
-last_survey any f k (Open g) true = refl
-last_survey any f k (Open g) false = refl
+last_survey any f k None true = refl
+last_survey any f k None false = refl
+last_survey any f k (Some g) true = refl
+last_survey any f k (Some g) false = refl
 
 -- one turn of the survey of file f, whose answer is w
-module _ (s : List ℕ) (a n k b e x f : ℕ) (any : Bool) (st : State) (w : Surveyed) (i : survey_from any f (scan_from st (n + 1) (lines_from a (drop a s))) ≡ w) where
+module _ (s : List ℕ) (a n k b e x f : ℕ) (any : Bool) (st : State) (w : Result Surveyed Refusal) (i : survey_from any f (scan_from st (n + 1) (lines_from a (drop a s))) ≡ w) where
   abbrev l : List ℕ
   l = part b e s
 
-  turn : {kind : Kind} → Sought s a n (LineAt k b e x) → kind ≡ kind_at st b l
+  turn : {kind : Kind} → Sought s a n (Some (record { number = k; start = b; end = e; next = x })) → kind ≡ kind_at st b l
       → survey_from any f (events_of st k b l kind ++ scan_from (after st k b kind) (k + 1) (lines_from x (drop x s))) ≡ w
   turn {kind} h ek = rw ek (ap (survey_from any f) (sym (sought_line s a n k b e x st h)) ∙ i)
 
-  pub survey_on : {kind : Kind} {next : State} {more : Bool} → Sought s a n (LineAt k b e x) → kind ≡ kind_at st b l → (fault_of kind ≡ 2 → ⊥) → (fault_of kind ≡ 3 → ⊥)
+  pub survey_on : {kind : Kind} {next : State} {more : Bool} → Sought s a n (Some (record { number = k; start = b; end = e; next = x })) → kind ≡ kind_at st b l → (fault_of kind ≡ 2 → ⊥) → (fault_of kind ≡ 3 → ⊥)
       → more ≡ closes kind → next ≡ after st k b kind
       → survey_from (any || more) f (scan_from next (k + 1) (lines_from x (drop x s))) ≡ w
   survey_on {kind} h ek p q em en =
       rw (em, en) (sym (line_over any f st k b l kind (scan_from (after st k b kind) (k + 1) (lines_from x (drop x s))) ek p q) ∙ turn h ek)
 
-  pub survey_nested : {kind : Kind} → Sought s a n (LineAt k b e x) → kind ≡ kind_at st b l → fault_of kind ≡ 2 → Wrong (NestedRegion (place f k)) ≡ w
+  pub survey_nested : {kind : Kind} → Sought s a n (Some (record { number = k; start = b; end = e; next = x })) → kind ≡ kind_at st b l → fault_of kind ≡ 2 → Err (NestedRegion (place f k)) ≡ w
   survey_nested {kind} h ek q = sym (line_wrong any f st k b 1 l kind (scan_from (after st k b kind) (k + 1) (lines_from x (drop x s))) q) ∙ turn h ek
 
-  pub survey_marker : {kind : Kind} → Sought s a n (LineAt k b e x) → kind ≡ kind_at st b l → fault_of kind ≡ 3 → Wrong (FragmentMarker (place f k)) ≡ w
+  pub survey_marker : {kind : Kind} → Sought s a n (Some (record { number = k; start = b; end = e; next = x })) → kind ≡ kind_at st b l → fault_of kind ≡ 3 → Err (FragmentMarker (place f k)) ≡ w
   survey_marker {kind} h ek q = sym (line_wrong any f st k b 2 l kind (scan_from (after st k b kind) (k + 1) (lines_from x (drop x s))) q) ∙ turn h ek
 
-  pub survey_end_lem : Sought s a n TextEnd → survey_end any f st.region ≡ w
+  pub survey_end_lem : Sought s a n None → survey_end any f st.region ≡ w
   survey_end_lem h =
       let last : ℕ = n + length (lines_from a (drop a s)) in
       sym (ap (survey_from any f) (sought_end s a n st h) ∙ last_survey any f last st.region st.fence) ∙ i
 
 -- what was gathered, by the problems and the regions
-abbrev survey_by : Bool → List Refusal → List Region → Surveyed
-survey_by any (x ∷ xs) gs = Wrong x
-survey_by any [] [] = cond any Regions NoRegion
-survey_by any [] (g ∷ gs) = Regions
+abbrev survey_by : Bool → List Refusal → List Region → Result Surveyed Refusal
+survey_by any (x ∷ xs) gs = Err x
+survey_by any [] [] = cond any (Ok Regions) (Ok NoRegion)
+survey_by any [] (g ∷ gs) = (Ok Regions)
 
 by_region : (any : Bool) (xs : List Refusal) (g : Region) (gs : List Region) → survey_by true xs gs ≡ survey_by any xs (g ∷ gs)
 by_region any (x ∷ xs) g gs = refl
@@ -241,21 +236,21 @@ survey_scanned f name s = by_lists false f (scan s) ∙ go (problems_of f (scan 
     go [] (g ∷ gs) = refl
 
 -- for callers: what `scanned` is, by the answer. Regions: those from the start on
-pub survey_regions : (h : File) → survey_of (scanned h) ≡ Regions → scanned h ≡ regions.regions (host_rest h start_cursor)
+pub survey_regions : (h : File) → survey_of (scanned h) ≡ (Ok Regions) → scanned h ≡ regions.regions (host_rest h start_cursor)
 unfolding scanned host_rest scan
 survey_regions h e = go (problems_of h.number (scan h.text)) (host_rest h start_cursor) e
   where
-    go : (xs : List Refusal) (rs : regions.Regions) → survey_of (scanned_by xs h.text rs) ≡ Regions → scanned_by xs h.text rs ≡ regions.regions rs
+    go : (xs : List Refusal) (rs : regions.Regions) → survey_of (scanned_by xs h.text rs) ≡ (Ok Regions) → scanned_by xs h.text rs ≡ regions.regions rs
     go (x ∷ xs) rs q = let z : ◌≡◌ {A = ℕ} 0 1 = cc in absurd (omega arith)
     go [] (regions.behind ls) q = let z : ◌≡◌ {A = ℕ} 0 1 = cc in absurd (omega arith)
     go [] (regions.region g rs) q = refl
 
 -- no region
-pub survey_none : (h : File) → survey_of (scanned h) ≡ NoRegion → scanned h ≡ regions.noRegion h.text
+pub survey_none : (h : File) → survey_of (scanned h) ≡ (Ok NoRegion) → scanned h ≡ regions.noRegion h.text
 unfolding scanned
 survey_none h e = go (problems_of h.number (scan h.text)) (regions.host_regions h (regions_of (scan h.text))) e
   where
-    go : (xs : List Refusal) (rs : regions.Regions) → survey_of (scanned_by xs h.text rs) ≡ NoRegion → scanned_by xs h.text rs ≡ regions.noRegion h.text
+    go : (xs : List Refusal) (rs : regions.Regions) → survey_of (scanned_by xs h.text rs) ≡ (Ok NoRegion) → scanned_by xs h.text rs ≡ regions.noRegion h.text
     go (x ∷ xs) rs q = let z : ◌≡◌ {A = ℕ} 0 1 = cc in absurd (omega arith)
     go [] (regions.behind ls) q = refl
     go [] (regions.region g rs) q = let z : ◌≡◌ {A = ℕ} 0 1 = cc in absurd (omega arith)
@@ -266,10 +261,10 @@ pub record IsProblem (h : File) (x : Refusal) : Type 0 where
   pub behind : regions.Regions
   pub is : scanned h ≡ regions.problem x others behind
 
-pub survey_problem : (h : File) {x : Refusal} → survey_of (scanned h) ≡ Wrong x → IsProblem h x
+pub survey_problem : (h : File) {x : Refusal} → survey_of (scanned h) ≡ Err x → IsProblem h x
 survey_problem h {x} e = go (scanned h) refl e
   where
-    go : (r : regions.Scanned) → scanned h ≡ r → survey_of r ≡ Wrong x → IsProblem h x
+    go : (r : regions.Scanned) → scanned h ≡ r → survey_of r ≡ Err x → IsProblem h x
     go (regions.problem y ys rs) p q =
         let z : y ≡ x = cc in
         record { others = ys; behind = rs; is = rw z at p }

@@ -8,14 +8,11 @@ ghost use Rattle.survey.specs.Surveys.{survey_of, fault_of, closes as closes_by,
 
 use answer::{Place, Refusal};
 use marker::line::Kind;
-use scan::seek::Seek;
-use scan::state::OpenRegion;
+use scan::seek::LineAt;
 use scan::{seek, state};
 
 #[derive(Clone, Copy)]
 pub enum Surveyed {
-    // 9, 10 or 11, whichever is found first.
-    Wrong(Refusal),
     NoRegion,
     Regions,
 }
@@ -56,26 +53,26 @@ fn closes(kind: Kind) -> bool
 }
 
 // The answer at the text's end, where a region is open or not, and one was closed before or not.
-fn at_end(region: OpenRegion, any: bool, file: usize) -> Surveyed
+fn at_end(region: Option<Opener>, any: bool, file: usize) -> Result<Surveyed, Refusal>
     ensures { result ≡ survey_end any file region }
 {
     match region {
-        OpenRegion::Open(g) => {
+        Some(g) => {
             let marker = g.marker;
             let line = marker.line;
-            Surveyed::Wrong(Refusal::UnclosedRegion(Place { file, line }))
+            Err(Refusal::UnclosedRegion(Place { file, line }))
         }
-        OpenRegion::Closed => {
+        None => {
             if any {
-                return Surveyed::Regions;
+                return Ok(Surveyed::Regions);
             }
-            Surveyed::NoRegion
+            Ok(Surveyed::NoRegion)
         }
     }
 }
 
 // What a scan of a file tells a fill. The file's number is for places.
-pub fn survey(s: &[u8], file: usize) -> Surveyed
+pub fn survey(s: &[u8], file: usize) -> Result<Surveyed, Refusal>
     ensures { (name : List ℕ) → result ≡ survey_of (scanned (file_of file name s.now)) }
 {
     let mut any = false;
@@ -85,26 +82,28 @@ pub fn survey(s: &[u8], file: usize) -> Surveyed
     loop {
         let l = seek::next_line(s, a, n);
         match l {
-            Seek::LineAt {
-                number,
-                start,
-                end,
-                next,
-            } => {
+            Some(
+                LineAt {
+                    number,
+                    start,
+                    end,
+                    next,
+                },
+            ) => {
                 let kind = state::kind_at(st, start, &s[start..end]);
                 let fault = fault_of(kind);
                 if fault == 2 {
-                    return Surveyed::Wrong(Refusal::NestedRegion(Place { file, line: number }));
+                    return Err(Refusal::NestedRegion(Place { file, line: number }));
                 }
                 if fault == 3 {
-                    return Surveyed::Wrong(Refusal::FragmentMarker(Place { file, line: number }));
+                    return Err(Refusal::FragmentMarker(Place { file, line: number }));
                 }
                 any = any | closes(kind);
                 st = state::after(st, number, start, kind);
                 a = next;
                 n = number;
             }
-            Seek::TextEnd => {
+            None => {
                 let region = st.region;
                 return at_end(region, any, file);
             }

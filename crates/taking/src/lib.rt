@@ -11,7 +11,7 @@ ghost use Rattle.opening.specs.Opening.{Lies};
 ghost use Rattle.filling.specs.Filling.{read_filled, FilledWithin, taken_in, CanTake};
 ghost use Rattle.taking.specs.Stands.{first_of, after_of};
 
-use filling::Filled;
+use answer::{Answer, Refusal};
 use index::rows::Row;
 use insertion::Insertion;
 use opening::Filling;
@@ -28,7 +28,7 @@ pub enum Stand {
         len: usize,
         used: usize,
     },
-    Done(Filled),
+    Done(Result<Answer, Refusal>),
 }
 
 // Where a fill starts: 9 to 11 and no region come before it.
@@ -36,9 +36,9 @@ pub fn first(s: &[u8], at: Filling) -> Stand
     ensures { (name : List ℕ) → result ≡ first_of at.used (survey_of (scanned (file_of at.number name s.now))) }
 {
     match survey::survey(s, at.number) {
-        Surveyed::Wrong(refusal) => Stand::Done(Filled::Refused(refusal)),
-        Surveyed::NoRegion => Stand::Done(Filled::NoRegion),
-        Surveyed::Regions => Stand::On {
+        Err(refusal) => Stand::Done(Err(refusal)),
+        Ok(Surveyed::NoRegion) => Stand::Done(Ok(Answer::NoRegion)),
+        Ok(Surveyed::Regions) => Stand::On {
             c: host::start(),
             len: 0,
             used: at.used,
@@ -47,23 +47,23 @@ pub fn first(s: &[u8], at: Filling) -> Stand
 }
 
 // Where it stands behind a region whose file was taken in.
-pub fn after(got: Filled, behind: HostCursor) -> Stand
+pub fn after(got: Result<Answer, Refusal>, behind: HostCursor) -> Stand
     ensures { result ≡ after_of got behind }
 {
     match got {
-        Filled::Text { length, files } => Stand::On {
+        Ok(Answer::Accepted { length, files }) => Stand::On {
             c: behind,
             len: length,
             used: files,
         },
-        Filled::NoRegion => Stand::Done(Filled::NoRegion),
-        Filled::Refused(refusal) => Stand::Done(Filled::Refused(refusal)),
+        Ok(Answer::NoRegion) => Stand::Done(Ok(Answer::NoRegion)),
+        Err(refusal) => Stand::Done(Err(refusal)),
     }
 }
 
 // Embeds what a fill gave behind the running text: its text, which starts at the limit; the file as it stands, where it has no region; or its refusal.
 pub fn take_in(
-    got: Filled,
+    got: Result<Answer, Refusal>,
     index: &[u8],
     contents: &[u8],
     row: Row,
@@ -71,7 +71,7 @@ pub fn take_in(
     used: usize,
     at: Insertion,
     work: &mut [u8],
-) -> Filled
+) -> Result<Answer, Refusal>
     requires { Lies (length index.now) (length contents.now) row × CanTake got at.target at.len at.limit (length work.old) }
     ensures work_after { read_filled result work.new ≡ taken_in at.limit at.opener (take at.len work.old)
         (embed_told host.now (part row.name row.end index.now) at.target at.number) (part row.start (row.start + row.size) contents.now) used
@@ -81,7 +81,7 @@ pub fn take_in(
     let a = row.name;
     let e = row.end;
     match got {
-        Filled::Text { length, files } => {
+        Ok(Answer::Accepted { length, files }) => {
             let limit = at.limit;
             let kept = embedding::drop_markers(&mut work[limit..], length);
             let source = Source {
@@ -94,7 +94,7 @@ pub fn take_in(
                 files,
             )
         }
-        Filled::NoRegion => {
+        Ok(Answer::NoRegion) => {
             let source = Source {
                 work: false,
                 start: row.start,
@@ -105,6 +105,6 @@ pub fn take_in(
                 used,
             )
         }
-        Filled::Refused(refusal) => Filled::Refused(refusal),
+        Err(refusal) => Err(refusal),
     }
 }

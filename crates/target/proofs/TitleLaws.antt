@@ -1,4 +1,5 @@
 -- Laws of `specs/Titles.antt`: the last member of a name, and a name that is too long for any. Assumes nothing.
+use Rattle.std.specs.Prelude.{Some, None}
 use Prim.Native.Nat.{ℕ, zero, suc, ◌+◌, ◌-◌, ◌≤◌, ◌<◌}
 use native.Mathlib.Numerals.{add-one}
 use native.Mathlib.Omega.{arith}
@@ -9,15 +10,12 @@ use mathlib.Core.Option.{Option, none, some}
 use lib.ListN.{length, take, drop, length-drop}
 use borrow.Author.Tests.{eq-eqb, ne_eqb}
 use Rattle.text.specs.Pattern.{equals}
-use Rattle.text.specs.declared.pattern.Found.TheVariants.{At, Nothing}
 use Rattle.text.specs.Bytes.{part}
 use Rattle.text.proofs.BytesLaws.{rest, part_length}
 use Rattle.anchor.specs.Anchor.{slug}
 use Rattle.path.specs.Path.{resolve}
 use Rattle.resolve.specs.Resolve.{Resolves}
-use Rattle.resolve.specs.declared.Resolved.TheVariants.{From, Long}
 use Rattle.link.specs.Target.{outside, placed, target_of, rewrite_target}
-use Rattle.link.specs.declared.target.Target.TheVariants.{Untouched, Path}
 use Rattle.put.specs.Put.{source_text, Inside, part_of, Able}
 use Rattle.put.specs.declared.Source.{Source}
 use Rattle.put.specs.declared.Room.{Room}
@@ -72,13 +70,13 @@ module _ {index set : List ℕ} {count : ℕ} {name : List ℕ} {k : ℕ} (p : S
       named : equals (name_of index (member_at set (k - 1))) name ≡ b
       named = ap (λ (x : Member). equals (name_of index x) name) (sym is) ∙ sym same
 
-      pub seeking_found : b ≡ true → FoundMember index set count name (At (k - 1))
+      pub seeking_found : b ≡ true → FoundMember index set count name (Some (k - 1))
       seeking_found e = (omega (arith, p.within), λ c w. next c w ∙ rw (named, e))
 
       pub seeking_on : b ≡ false → Seeking index set count name (k - 1)
       seeking_on e = record { within = omega (arith, p.within); same = λ c w. next c w ∙ rw (named, e) }
 
-  pub seeking_end : k ≤ 0 → FoundMember index set count name Nothing
+  pub seeking_end : k ≤ 0 → FoundMember index set count name None
   seeking_end h c w = let e : k ≡ 0 = omega arith in p.same c w ∙ ap (λ (n : ℕ). titles_in index c w set n name) e ∙ titles_none index c w set name
 
 -- a text that is no name by its length
@@ -117,11 +115,11 @@ title_able {set = set} all h f k j =
 
 -- what a target becomes, by what it is
 module _ (titles : List ℕ → Option (List ℕ)) (url dir t : List ℕ) where
-  pub target-same : target_of t ≡ Untouched → rewrite_target titles url dir t ≡ t
+  pub target-same : target_of t ≡ None → rewrite_target titles url dir t ≡ t
   unfolding rewrite_target
   target-same e = rw e
 
-  pub target-placed : (e : ℕ) → target_of t ≡ Path e → rewrite_target titles url dir t ≡ placed url (resolve dir (take e t)) (drop e t) (titles (resolve dir (take e t)))
+  pub target-placed : (e : ℕ) → target_of t ≡ Some e → rewrite_target titles url dir t ≡ placed url (resolve dir (take e t)) (drop e t) (titles (resolve dir (take e t)))
   unfolding rewrite_target
   target-placed e q = rw q
 
@@ -144,10 +142,10 @@ module _ {target : Source} {room : Room} {c w : List ℕ} (able : Able target ro
   pub path_able : Inside path 0 (length c) (length w)
   path_able = rw is (inside-any (part_of target 0 e) room.limit (length c) (length w) (able_part able 0 e (omega arith) (omega (arith, able.inside.0))).inside)
 
-  pub path-here : (a : ℕ) → Resolves dir (source_text path c w) out (From a) → part a 256 out ≡ resolve dir (take e (source_text target c w))
+  pub path-here : (a : ℕ) → Resolves dir (source_text path c w) out (Some a) → part a 256 out ≡ resolve dir (take e (source_text target c w))
   path-here a f = ap (λ (n : ℕ). part a n out) (sym size) ∙ rest out a ∙ f.1 ∙ ap (resolve dir) path-is
 
-  pub path-long : Resolves dir (source_text path c w) out Long → 255 < length (resolve dir (take e (source_text target c w)))
+  pub path-long : Resolves dir (source_text path c w) out None → 255 < length (resolve dir (take e (source_text target c w)))
   path-long f = omega (arith, f, ap (λ (x : List ℕ). length (resolve dir x)) path-is)
 
 -- a link to a member, by whether it has a fragment

@@ -1,9 +1,7 @@
 -- The titles of members by their names, and what a link to one of them becomes.
-use Rattle.std.specs.Prelude.{ℕ, ◌+◌, ◌≤◌, ◌<◌, ◌≡◌, cond, List, [], ◌∷◌, eqb, length}
+use Rattle.std.specs.Prelude.{ℕ, ◌+◌, ◌≤◌, ◌<◌, ◌≡◌, cond, List, [], ◌∷◌, eqb, length, Option, Some, None}
 use Rattle.std.proofs.Math.Option.{Option, none, some}
 use Rattle.text.specs.Pattern.{equals}
-use Rattle.text.specs.declared.pattern.Found.{Found}
-use Rattle.text.specs.declared.pattern.Found.TheVariants.{At, Nothing}
 use Rattle.anchor.specs.Anchor.{slug}
 use Rattle.put.specs.Put.{source_text}
 use Rattle.member.specs.Member.{Prepared}
@@ -26,10 +24,10 @@ pub record Named (index set : List ℕ) (n : ℕ) : Type 0 where
   pub within : (i : ℕ) → i < n → (member_at set i).name.end ≤ length index
 
 -- the last of n members that has a name, whatever the buffers hold
-abbrev pub FoundMember : List ℕ → List ℕ → ℕ → List ℕ → Found → Type 0
-FoundMember index set n name (At k) =
+abbrev pub FoundMember : List ℕ → List ℕ → ℕ → List ℕ → Option ℕ → Type 0
+FoundMember index set n name (Some k) =
     (k < n) × ((contents work : List ℕ) → titles_in index contents work set n name ≡ some (source_text (title_source (member_at set k)) contents work))
-FoundMember index set n name Nothing = (contents work : List ℕ) → titles_in index contents work set n name ≡ none
+FoundMember index set n name None = (contents work : List ℕ) → titles_in index contents work set n name ≡ none
 
 -- a member's title lies in its text
 abbrev pub TitleIn : Member → Type 0

@@ -8,14 +8,11 @@ ghost use Rattle.put.specs.Put.{source_text, Able, Wrote};
 ghost use Rattle.members.specs.Members.{member_at, title_source, AllStand};
 ghost use Rattle.target.specs.Titles.{titles_in, Named, FoundMember, TitleIn, inside};
 
-use link::target::Target;
-use put::{Put, Room, Source};
-use resolve::Resolved;
+use put::{Room, Source};
 use text::pattern;
-use text::pattern::Found;
 
 // The last member of a name.
-fn find_member(index: &[u8], set: &[usize; 704], count: usize, name: &[u8]) -> Found
+fn find_member(index: &[u8], set: &[usize; 704], count: usize, name: &[u8]) -> Option<usize>
     requires { Named index.now set.now count }
     ensures { FoundMember index.now set.now count name.now result }
 {
@@ -27,11 +24,11 @@ fn find_member(index: &[u8], set: &[usize; 704], count: usize, name: &[u8]) -> F
         let a = other.start;
         let e = other.end;
         if pattern::equals(name, &index[a..e]) {
-            return Found::At(k);
+            return Some(k);
         }
         left -= 1;
     }
-    Found::Nothing
+    None
 }
 
 // A target that names a member: its bytes from a place on, or where there are none `#` and the anchor of the member's title.
@@ -43,7 +40,7 @@ fn put_inside(
     e: usize,
     room: Room,
     work: &mut [u8],
-) -> Put
+) -> Option<usize>
     requires { Able target room contents.now work.old × ((e ≤ target.end - target.start) × ((k < 64) × (TitleIn (member_at set.now k) × Able (title_source (member_at set.now k)) room contents.now work.old))) }
     ensures { Wrote room (inside (drop e (source_text target contents.now work.old)) (source_text (title_source (member_at set.now k)) contents.now work.old)) work.old work.new result }
 {
@@ -67,13 +64,13 @@ fn put_named(
     e: usize,
     room: Room,
     work: &mut [u8],
-) -> Put
+) -> Option<usize>
     requires { Able target room contents.now work.old × ((e ≤ target.end - target.start) × AllStand index.now (length contents.now) room.limit (length work.old) set.now count) }
     ensures { Wrote room (placed url.now resolved.now (drop e (source_text target contents.now work.old)) (titles_in index.now contents.now work.old set.now count resolved.now)) work.old work.new result }
 {
     match find_member(index, set, count, resolved) {
-        Found::At(k) => put_inside(contents, set, k, target, e, room, work),
-        Found::Nothing => pointer::put_outside(contents, url, resolved, target, e, room, work),
+        Some(k) => put_inside(contents, set, k, target, e, room, work),
+        None => pointer::put_outside(contents, url, resolved, target, e, room, work),
     }
 }
 
@@ -89,14 +86,14 @@ fn put_placed(
     dir: &[u8],
     room: Room,
     work: &mut [u8],
-) -> Put
+) -> Option<usize>
     requires { Able target room contents.now work.old × ((e ≤ target.end - target.start) × AllStand index.now (length contents.now) room.limit (length work.old) set.now count) }
     ensures { Wrote room (placed url.now (resolve dir.now (take e (source_text target contents.now work.old))) (drop e (source_text target contents.now work.old)) (titles_in index.now contents.now work.old set.now count (resolve dir.now (take e (source_text target contents.now work.old))))) work.old work.new result }
 {
     let mut resolved = [0u8; 256];
     let path = put::part_of(target, 0, e);
     match sources::resolve_in(contents, work, path, dir, &mut resolved) {
-        Resolved::From(a) => put_named(
+        Some(a) => put_named(
             index,
             contents,
             url,
@@ -108,7 +105,7 @@ fn put_placed(
             room,
             work,
         ),
-        Resolved::Long => pointer::put_far(contents, url, target, e, dir, room, work),
+        None => pointer::put_far(contents, url, target, e, dir, room, work),
     }
 }
 
@@ -123,17 +120,15 @@ pub fn put_target(
     dir: &[u8],
     room: Room,
     work: &mut [u8],
-) -> Put
+) -> Option<usize>
     requires { Able target room contents.now work.old × AllStand index.now (length contents.now) room.limit (length work.old) set.now count }
     ensures { Wrote room (rewrite_target (titles_in index.now contents.now work.old set.now count) url.now dir.now (source_text target contents.now work.old)) work.old work.new result }
 {
     match sources::target_in(contents, work, target) {
-        Target::Untouched => {
+        None => {
             let n = target.end - target.start;
             put::put_part(contents, target, 0, n, room, work)
         }
-        Target::Path(e) => {
-            put_placed(index, contents, url, set, count, target, e, dir, room, work)
-        }
+        Some(e) => { put_placed(index, contents, url, set, count, target, e, dir, room, work) }
     }
 }

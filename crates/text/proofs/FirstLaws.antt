@@ -1,4 +1,5 @@
 -- Laws of blank lines, and of lines that do not begin with a byte of `specs/First.antt`: what stands at their trimmed start. Assumes nothing.
+use Rattle.std.specs.Prelude.{None}
 use Prim.Native.Nat.{ℕ, suc, ◌≤◌}
 use native.Mathlib.Omega.{arith}
 use mathlib.Core.Path.{◌≡◌, refl, sym, ap, ◌∙◌}
@@ -11,7 +12,6 @@ use Rattle.text.specs.Bytes.{first}
 use Rattle.text.specs.Pattern.{starts_with, find}
 use Rattle.text.specs.Space.{is_space, is_other, lead, trim_start, is_blank}
 use Rattle.text.specs.First.{is_first, begins}
-use Rattle.text.specs.declared.pattern.Found.TheVariants.{Nothing}
 use Rattle.text.proofs.BytesLaws.{or_left, or_right}
 
 -- a byte that passes a test is none that fails it
@@ -35,7 +35,7 @@ blank_trimmed l e =
     drop_of_length-le l h
 
 -- a blank line holds no pattern that begins with another byte
-pub blank_find : (b : ℕ) (p l : List ℕ) → is_space b ≡ false → is_blank l ≡ true → find (b ∷ p) l ≡ Nothing
+pub blank_find : (b : ℕ) (p l : List ℕ) → is_space b ≡ false → is_blank l ≡ true → find (b ∷ p) l ≡ None
 unfolding find starts_with
 blank_find b p [] h e = refl
 blank_find b p (x ∷ l) h e =

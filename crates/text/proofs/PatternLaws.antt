@@ -1,6 +1,7 @@
 -- Laws of `specs/Pattern.antt`: patterns at the start of a text by its bytes, texts that are a pattern or end with it, searches by their places, and
 -- what is found lies within.
 -- Assumes nothing.
+use Rattle.std.specs.Prelude.{Option, Some, None}
 use Prim.Native.Nat.{ℕ, zero, suc, ◌+◌, ◌-◌, ◌≤◌, ◌<◌, zero-le}
 use native.Mathlib.Nat.{add-zero, add_assoc, zero-add, not-suc-le-zero}
 use native.Mathlib.Numerals.{add-one, one-add}
@@ -14,8 +15,6 @@ use lib.Dec.{eqb, leb, eqb-suc-zero}
 use borrow.Author.Tests.{eq-eqb, ne_eqb, eqb-true, leb-true, le-leb}
 use Rattle.text.specs.Bytes.{is, first, part}
 use Rattle.text.specs.Pattern.{starts_with, ends_with, equals, find, later, is_at, contains}
-use Rattle.text.specs.declared.pattern.Found.{Found}
-use Rattle.text.specs.declared.pattern.Found.TheVariants.{At, Nothing}
 use Rattle.text.proofs.BytesLaws.{rest}
 
 pub and_left : (a b : Bool) → (a && b) ≡ true → a ≡ true
@@ -124,15 +123,15 @@ equals-not x p s h = go (equals s (x ++ p)) refl
     go false e = refl
 
 -- a search by its first place
-pub later-zero : (f : Found) → later 0 f ≡ f
-later-zero (At i) = ap At (zero-add i)
-later-zero Nothing = refl
+pub later-zero : (f : Option ℕ) → later 0 f ≡ f
+later-zero (Some i) = ap Some (zero-add i)
+later-zero None = refl
 
-pub later-later : (j k : ℕ) (f : Found) → later j (later k f) ≡ later (j + k) f
-later-later j k (At i) = ap At (sym (add_assoc j k i))
-later-later j k Nothing = refl
+pub later-later : (j k : ℕ) (f : Option ℕ) → later j (later k f) ≡ later (j + k) f
+later-later j k (Some i) = ap Some (sym (add_assoc j k i))
+later-later j k None = refl
 
-pub find_hit : (p s : List ℕ) → starts_with p s ≡ true → find p s ≡ At 0
+pub find_hit : (p s : List ℕ) → starts_with p s ≡ true → find p s ≡ Some 0
 unfolding find
 find_hit p [] e = rw e
 find_hit p (x ∷ s) e = rw e
@@ -142,7 +141,7 @@ unfolding find
 find_miss p [] h e = absurd (not-suc-le-zero h)
 find_miss p (x ∷ s) h e = rw e
 
-pub find_none : (p : List ℕ) → 0 < length p → find p [] ≡ Nothing
+pub find_none : (p : List ℕ) → 0 < length p → find p [] ≡ None
 unfolding find starts_with
 find_none [] h = absurd (not-suc-le-zero h)
 find_none (b ∷ p) h = refl
@@ -162,8 +161,8 @@ find_jump (b ∷ p) (x ∷ s) h = go (eqb x b) (find_jump (b ∷ p) s h) refl
 
 -- a search that has passed j places and looks at place j
 module _ (p s : List ℕ) (j : ℕ) (passed : find p s ≡ later j (find p (drop j s))) where
-  pub found_here : starts_with p (part j (length s) s) ≡ true → find p s ≡ At j
-  found_here e = passed ∙ ap (later j) (find_hit p (drop j s) (rw rest at e)) ∙ ap At (add-zero j)
+  pub found_here : starts_with p (part j (length s) s) ≡ true → find p s ≡ Some j
+  found_here e = passed ∙ ap (later j) (find_hit p (drop j s) (rw rest at e)) ∙ ap Some (add-zero j)
 
   pub found-later : j < length s → starts_with p (part j (length s) s) ≡ false → find p s ≡ later (j + 1) (find p (drop (j + 1) s))
   found-later h e =
@@ -180,29 +179,29 @@ module _ (p s : List ℕ) (j : ℕ) (passed : find p s ≡ later j (find p (drop
       ∙ later-later j n (find p (drop (j + n) s))
       ∙ rw e
 
-  pub found_none : 0 < length p → length s ≤ j → find p s ≡ Nothing
+  pub found_none : 0 < length p → length s ≤ j → find p s ≡ None
   found_none h k = passed ∙ rw (drop_of_length-le s k, find_none p h)
 
 -- what is found lies within the text
-abbrev Within : List ℕ → List ℕ → Found → Type 0
-Within p s (At i) = i + length p ≤ length s
-Within p s Nothing = Unit {0}
+abbrev Within : List ℕ → List ℕ → Option ℕ → Type 0
+Within p s (Some i) = i + length p ≤ length s
+Within p s None = Unit {0}
 
 within : (p s : List ℕ) → Within p s (find p s)
 unfolding find
 within p [] = here (starts_with p []) refl
   where
-    here : (b : Bool) → starts_with p [] ≡ b → Within p [] (cond b (At 0) Nothing)
+    here : (b : Bool) → starts_with p [] ≡ b → Within p [] (cond b (Some 0) None)
     here true e = omega (arith, starts-long p [] e)
     here false e = tt
 within p (x ∷ s) = here (starts_with p (x ∷ s)) (find p s) refl (within p s)
   where
-    here : (b : Bool) (f : Found) → starts_with p (x ∷ s) ≡ b → Within p s f → Within p (x ∷ s) (cond b (At 0) (later 1 f))
+    here : (b : Bool) (f : Option ℕ) → starts_with p (x ∷ s) ≡ b → Within p s f → Within p (x ∷ s) (cond b (Some 0) (later 1 f))
     here true f e h = omega (arith, starts-long p (x ∷ s) e)
-    here false (At i) e h = omega arith
-    here false Nothing e h = tt
+    here false (Some i) e h = omega arith
+    here false None e h = tt
 
-pub find-within : (p s : List ℕ) (i : ℕ) → find p s ≡ At i → i + length p ≤ length s
+pub find-within : (p s : List ℕ) (i : ℕ) → find p s ≡ Some i → i + length p ≤ length s
 find-within p s i e = subst (Within p s) e (within p s)
 
 -- a longer pattern stands at no place before the first of its start
@@ -217,38 +216,38 @@ starts_longer (b ∷ p) q (x ∷ s) e = go (eqb x b) (starts_longer p q s) e
     go true h k = h k
     go false h k = refl
 
-abbrev Onward : List ℕ → List ℕ → Found → Type 0
-Onward p s (At i) = find p s ≡ later i (find p (drop i s))
-Onward p s Nothing = Unit {0}
+abbrev Onward : List ℕ → List ℕ → Option ℕ → Type 0
+Onward p s (Some i) = find p s ≡ later i (find p (drop i s))
+Onward p s None = Unit {0}
 
 onward : (p q s : List ℕ) → Onward (p ++ q) s (find p s)
 unfolding find
 onward p q [] = here (starts_with p [])
   where
-    here : (b : Bool) → Onward (p ++ q) [] (cond b (At 0) Nothing)
+    here : (b : Bool) → Onward (p ++ q) [] (cond b (Some 0) None)
     here true = sym (later-zero (find (p ++ q) []))
     here false = tt
 onward p q (x ∷ s) = here (starts_with p (x ∷ s)) (find p s) refl (onward p q s)
   where
-    here : (b : Bool) (f : Found) → starts_with p (x ∷ s) ≡ b → Onward (p ++ q) s f → Onward (p ++ q) (x ∷ s) (cond b (At 0) (later 1 f))
+    here : (b : Bool) (f : Option ℕ) → starts_with p (x ∷ s) ≡ b → Onward (p ++ q) s f → Onward (p ++ q) (x ∷ s) (cond b (Some 0) (later 1 f))
     here true f e h = sym (later-zero (find (p ++ q) (x ∷ s)))
-    here false (At i) e h = rw (starts_longer p q (x ∷ s) e, h) (later-later 1 i (find (p ++ q) (drop i s)) ∙ rw one-add)
-    here false Nothing e h = tt
+    here false (Some i) e h = rw (starts_longer p q (x ∷ s) e, h) (later-later 1 i (find (p ++ q) (drop i s)) ∙ rw one-add)
+    here false None e h = tt
 
-pub find_longer : (p q s : List ℕ) (i : ℕ) → find p s ≡ At i → find (p ++ q) s ≡ later i (find (p ++ q) (drop i s))
+pub find_longer : (p q s : List ℕ) (i : ℕ) → find p s ≡ Some i → find (p ++ q) s ≡ later i (find (p ++ q) (drop i s))
 find_longer p q s i e = subst (Onward (p ++ q) s) e (onward p q s)
 
-is_at-later : (k : ℕ) (f : Found) → is_at (later k f) ≡ is_at f
-is_at-later k (At i) = refl
-is_at-later k Nothing = refl
+is_at-later : (k : ℕ) (f : Option ℕ) → is_at (later k f) ≡ is_at f
+is_at-later k (Some i) = refl
+is_at-later k None = refl
 
-pub contains_longer : (p q s : List ℕ) (i : ℕ) → find p s ≡ At i → contains (p ++ q) s ≡ contains (p ++ q) (drop i s)
+pub contains_longer : (p q s : List ℕ) (i : ℕ) → find p s ≡ Some i → contains (p ++ q) s ≡ contains (p ++ q) (drop i s)
 contains_longer p q s i e = ap is_at (find_longer p q s i e) ∙ is_at-later i (find (p ++ q) (drop i s))
 
 -- a text that does not hold the pattern has it at no place
-pub contains_nothing : (p s : List ℕ) → contains p s ≡ false → find p s ≡ Nothing
+pub contains_nothing : (p s : List ℕ) → contains p s ≡ false → find p s ≡ None
 contains_nothing p s = go (find p s)
   where
-    go : (f : Found) → is_at f ≡ false → f ≡ Nothing
-    go (At i) e = absurd (false≢true (sym e))
-    go Nothing e = refl
+    go : (f : Option ℕ) → is_at f ≡ false → f ≡ None
+    go (Some i) e = absurd (false≢true (sym e))
+    go None e = refl

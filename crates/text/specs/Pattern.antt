@@ -1,10 +1,8 @@
 -- Patterns in a text: at its start, at its end, and anywhere.
-use Rattle.std.specs.Prelude.{ℕ, ◌+◌, ◌-◌, Bool, true, false, cond, ◌&&◌, List, [], ◌∷◌, length, drop, eqb, leb}
+use Rattle.std.specs.Prelude.{ℕ, ◌+◌, ◌-◌, Bool, true, false, cond, ◌&&◌, List, [], ◌∷◌, length, drop, eqb, leb, Option, Some, None}
 use Prim.Native.String.{String}
 use Prim.Native.String as str
 use Prim.Native.Char.{code}
-use Rattle.text.specs.declared.pattern.Found.{Found}
-use Rattle.text.specs.declared.pattern.Found.TheVariants.{At, Nothing}
 
 -- the bytes of an ASCII text in quotes
 abbrev pub bytes : String → List ℕ
@@ -26,18 +24,18 @@ unfoldable pub equals : List ℕ → List ℕ → Bool
 equals p s = eqb (length s) (length p) && starts_with p s
 
 -- a place found in what stands k bytes further on
-abbrev pub later : ℕ → Found → Found
-later k (At i) = At (k + i)
-later k Nothing = Nothing
+abbrev pub later : ℕ → Option ℕ → Option ℕ
+later k (Some i) = Some (k + i)
+later k None = None
 
 -- the first place of s at which p stands
-unfoldable pub find : List ℕ → List ℕ → Found
-find p [] = cond (starts_with p []) (At 0) Nothing
-find p (x ∷ s) = cond (starts_with p (x ∷ s)) (At 0) (later 1 (find p s))
+unfoldable pub find : List ℕ → List ℕ → Option ℕ
+find p [] = cond (starts_with p []) (Some 0) None
+find p (x ∷ s) = cond (starts_with p (x ∷ s)) (Some 0) (later 1 (find p s))
 
-abbrev pub is_at : Found → Bool
-is_at (At i) = true
-is_at Nothing = false
+abbrev pub is_at : Option ℕ → Bool
+is_at (Some i) = true
+is_at None = false
 
 -- whether p stands anywhere in s
 abbrev pub contains : List ℕ → List ℕ → Bool

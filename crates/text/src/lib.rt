@@ -4,5 +4,6 @@
 pub mod ascii;
 pub mod bytes;
 pub mod lines;
+pub mod part;
 pub mod pattern;
 pub mod space;

@@ -4,13 +4,6 @@ ghost use Rattle.text.specs.Pattern.{starts_with, ends_with, equals as equals_to
 
 use crate::bytes;
 
-// A place in a text, or none.
-#[derive(Clone, Copy)]
-pub enum Found {
-    At(usize),
-    Nothing,
-}
-
 // Whether s begins with p.
 pub fn starts_with(s: &[u8], p: &[u8]) -> bool
     ensures { result ≡ starts_with p.now s.now }
@@ -50,21 +43,21 @@ pub fn equals(s: &[u8], p: &[u8]) -> bool
 }
 
 // The first place of s at which p stands.
-pub fn find(s: &[u8], p: &[u8]) -> Found
+pub fn find(s: &[u8], p: &[u8]) -> Option<usize>
     ensures { result ≡ find_in p.now s.now }
 {
     if p.len() == 0 {
-        return Found::At(0);
+        return Some(0);
     }
     let b = p[0];
     let mut i = bytes::find_byte(s, 0, b);
     while i < s.len() {
         if starts_with(&s[i..], p) {
-            return Found::At(i);
+            return Some(i);
         }
         i = bytes::find_byte(s, i + 1, b);
     }
-    Found::Nothing
+    None
 }
 
 // Whether p stands anywhere in s.
@@ -73,7 +66,7 @@ pub fn contains(s: &[u8], p: &[u8]) -> bool
 {
     let f = find(s, p);
     match f {
-        Found::At(_) => true,
-        Found::Nothing => false,
+        Some(_) => true,
+        None => false,
     }
 }

@@ -18,35 +18,35 @@ next-y-requires c = c.loop-a.invariant.1.0
 
 pub returns-then-a-b : goal.returns-then-a-b
 returns-then-a-b c =
-    let p = rw c.in-Byte.is at c.next-x.ensures in
-    let q = rw c.in-Byte-y.is at c.next-y.ensures in
+    let p = rw c.in-Some.is at c.next-x.ensures in
+    let q = rw c.in-Some-y.is at c.next-y.ensures in
     sym (c.loop-a.invariant.1.1 ∙ rw (p.0, q.0) (equals_differ _ _ _ _ c.if-a-b.true))
 
 pub loop-a-smaller : goal.loop-a-smaller
 loop-a-smaller c =
-    let p = rw c.in-Byte.is at c.next-x.ensures in
+    let p = rw c.in-Some.is at c.next-x.ensures in
     omega (arith, p.1.0, p.1.1)
 
 pub loop-a-preserved : goal.loop-a-preserved
 loop-a-preserved c =
-    let p = rw c.in-Byte.is at c.next-x.ensures in
-    let q = rw c.in-Byte-y.is at c.next-y.ensures in
+    let p = rw c.in-Some.is at c.next-x.ensures in
+    let q = rw c.in-Some-y.is at c.next-y.ensures in
     (p.1.1, (q.1.1, c.loop-a.invariant.1.1 ∙ rw (p.0, q.0) (equals_on _ _ _ _ c.if-a-b.false)))
 
-pub returns-in-End-y : goal.returns-in-End-y
-returns-in-End-y c =
-    let p = rw c.in-Byte.is at c.next-x.ensures in
-    let q = rw c.in-End-y.is at c.next-y.ensures in
+pub returns-in-None-y : goal.returns-in-None-y
+returns-in-None-y c =
+    let p = rw c.in-Some.is at c.next-x.ensures in
+    let q = rw c.in-None-y.is at c.next-y.ensures in
     sym (c.loop-a.invariant.1.1 ∙ rw (p.0, q) (equals_longer _ _))
 
-pub returns-in-Byte-y-2 : goal.returns-in-Byte-y-2
-returns-in-Byte-y-2 c =
-    let p = rw c.in-End.is at c.next-x.ensures in
-    let q = rw c.in-Byte-y-2.is at c.next-y.ensures in
+pub returns-in-Some-y-2 : goal.returns-in-Some-y-2
+returns-in-Some-y-2 c =
+    let p = rw c.in-None.is at c.next-x.ensures in
+    let q = rw c.in-Some-y-2.is at c.next-y.ensures in
     sym (c.loop-a.invariant.1.1 ∙ rw (p, q.0) (equals_shorter _ _))
 
-pub returns-in-End-y-2 : goal.returns-in-End-y-2
-returns-in-End-y-2 c =
-    let p = rw c.in-End.is at c.next-x.ensures in
-    let q = rw c.in-End-y-2.is at c.next-y.ensures in
+pub returns-in-None-y-2 : goal.returns-in-None-y-2
+returns-in-None-y-2 c =
+    let p = rw c.in-None.is at c.next-x.ensures in
+    let q = rw c.in-None-y-2.is at c.next-y.ensures in
     sym (c.loop-a.invariant.1.1 ∙ rw (p, q) equals-nil)

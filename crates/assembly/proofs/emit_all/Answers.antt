@@ -10,11 +10,11 @@ loop-i-init c = let s = c in emitting_start s.args.index.now s.args.contents.now
 pub emit-requires : goal.emit-requires
 emit-requires c = (emitting_able c.requires c.loop-i.invariant, (c.loop-i-test.true, c.loop-i.invariant.below))
 
-pub shape_of-work-in-Refused : goal.shape_of-work-in-Refused
-shape_of-work-in-Refused c = omega arith
+pub shape_of-work-in-Err : goal.shape_of-work-in-Err
+shape_of-work-in-Err c = omega arith
 
-pub returns-in-Refused : goal.returns-in-Refused
-returns-in-Refused c = let h = rw c.in-Refused.is at c.emit.ensures in record { by_index = emitting_stops c.requires c.loop-i.invariant c.loop-i-test.true c.emit.new.work (omega arith) c.in-Refused.refusal h; assembled_within = tt }
+pub returns-in-Err : goal.returns-in-Err
+returns-in-Err c = let h = rw c.in-Err.is at c.emit.ensures in record { by_index = emitting_stops c.requires c.loop-i.invariant c.loop-i-test.true c.emit.new.work (omega arith) c.in-Err.refusal h; assembled_within = tt }
 
 pub member_at-m-requires : goal.member_at-m-requires
 member_at-m-requires c = omega (arith, c.requires.stand.few)
@@ -26,7 +26,7 @@ pub loop-i-smaller : goal.loop-i-smaller
 loop-i-smaller c = omega arith
 
 pub loop-i-preserved : goal.loop-i-preserved
-loop-i-preserved c = let h = rw c.in-Text.is at c.emit.ensures in emitting_next c.requires c.loop-i.invariant c.loop-i-test.true c.emit.new.work (omega arith) c.member_at-m.result c.member_at-m.ensures c.in-Text.len h
+loop-i-preserved c = let h = rw c.in-Ok.is at c.emit.ensures in emitting_next c.requires c.loop-i.invariant c.loop-i-test.true c.emit.new.work (omega arith) c.member_at-m.result c.member_at-m.ensures c.in-Ok.len h
 
 pub put_bytes-requires : goal.put_bytes-requires
 put_bytes-requires c = (c.loop-i.invariant.below, (emitting_able c.requires c.loop-i.invariant).fits)

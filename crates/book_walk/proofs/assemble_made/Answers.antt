@@ -26,17 +26,17 @@ pub assemble-text-requires : goal.assemble-text-requires
 assemble-text-requires c = let a = c.args in let p = c.requires in
     (c.put_made.ensures.all_lie, (omega (arith, slot_le a.limit 0 a.count (omega arith)), (p.1, omega (arith, table_fits a.limit a.records a.count (length a.work.now) p.0.room))))
 
-pub returns-in-Refused : goal.returns-in-Refused
-returns-in-Refused c = let a = c.args in
+pub returns-in-Err : goal.returns-in-Err
+returns-in-Err c = let a = c.args in
     let S : List File = (files_in a.index.now a.rows.now a.contents.now a.records) in
     let hs : List File = (files_from a.index.now a.contents.now a.work.now a.set.now 0 a.count) in
-    let e : judged_all a.allowance a.limit S hs ≡ refused c.in-Refused.refusal = rw c.in-Refused.is at c.put_made.ensures.made_of in
+    let e : judged_all a.allowance a.limit S hs ≡ refused c.in-Err.refusal = rw c.in-Err.is at c.put_made.ensures.made_of in
     record { work_after = ap outcome (sym (book-stopped a.allowance a.limit S hs a.url.now e)); fits = tt }
 
-pub returns-in-All : goal.returns-in-All
-returns-in-All c = let a = c.args in let m = c.put_made in let f = c.assemble-text in let e = c.answer_of.ensures in
+pub returns-in-Ok : goal.returns-in-Ok
+returns-in-Ok c = let a = c.args in let m = c.put_made in let f = c.assemble-text in let e = c.answer_of.ensures in
     let S : List File = (files_in a.index.now a.rows.now a.contents.now a.records) in
     let hs : List File = (files_from a.index.now a.contents.now a.work.now a.set.now 0 a.count) in
     let w : List ℕ = f.new.work in
-    let all : AreMade a.allowance a.limit S hs (files_from a.index.now a.contents.now m.new.work m.new.set 0 a.count) c.in-All.files = rw c.in-All.is at m.ensures.made_of in
-    record { work_after = rw e (made_read a.allowance a.limit S hs a.url.now f.result w all f.ensures.by_index); fits = rw e (assembled-fits c.in-All.files f.result a.limit f.ensures.assembled_within) }
+    let all : AreMade a.allowance a.limit S hs (files_from a.index.now a.contents.now m.new.work m.new.set 0 a.count) c.in-Ok.files = rw c.in-Ok.is at m.ensures.made_of in
+    record { work_after = rw e (made_read a.allowance a.limit S hs a.url.now f.result w all f.ensures.by_index); fits = rw e (assembled-fits c.in-Ok.files f.result a.limit f.ensures.assembled_within) }

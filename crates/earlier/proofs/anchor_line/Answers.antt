@@ -29,31 +29,31 @@ returns-in_default c = let a = c.args in
 
 pub part_of-requires : goal.part_of-requires
 part_of-requires c = let a = c.args in
-    let h = rw c.in-Next.is at c.heading_in.ensures in
-    (h.forward, part-fits a.text a.contents.now a.work.now 0 c.in-Next.end c.requires.0.0 h.within)
+    let h = rw c.in-Some.is at c.heading_in.ensures in
+    (h.forward, part-fits a.text a.contents.now a.work.now 0 c.in-Some.end c.requires.0.0 h.within)
 
 pub same_in-requires : goal.same_in-requires
 same_in-requires c = let a = c.args in
     let p = c.requires in
-    let h = rw c.in-Next.is at c.heading_in.ensures in
-    let k = part-fits a.text a.contents.now a.work.now 0 c.in-Next.end p.0.0 h.within in
-    (p.1, rw c.part_of.ensures (inside-part a.text 0 (length a.contents.now) (length a.work.now) p.0 c.in-Next.start c.in-Next.end h.forward k))
+    let h = rw c.in-Some.is at c.heading_in.ensures in
+    let k = part-fits a.text a.contents.now a.work.now 0 c.in-Some.end p.0.0 h.within in
+    (p.1, rw c.part_of.ensures (inside-part a.text 0 (length a.contents.now) (length a.work.now) p.0 c.in-Some.start c.in-Some.end h.forward k))
 
 pub returns-then-same_in : goal.returns-then-same_in
 returns-then-same_in c = let a = c.args in
     let l = c.loop-start in
     let x : List ℕ = slug (source_text a.heading a.contents.now a.work.now) in
-    let h = rw c.in-Next.is at c.heading_in.ensures in
-    let e = part-text a.text a.contents.now a.work.now c.in-Next.start c.in-Next.end c.requires.0.0 h.within c.part_of.result c.part_of.ensures in
+    let h = rw c.in-Some.is at c.heading_in.ensures in
+    let e = part-text a.text a.contents.now a.work.now c.in-Some.start c.in-Some.end c.requires.0.0 h.within c.part_of.result c.part_of.ensures in
     sym (l.invariant.1 ∙ line_hit h x (ap (λ (t : List ℕ). equals x (slug t)) (sym e) ∙ sym c.same_in.ensures ∙ c.if-same_in.true))
 
 pub loop-start-smaller : goal.loop-start-smaller
-loop-start-smaller c = let h = rw c.in-Next.is at c.heading_in.ensures in omega (arith, h.later, h.next, c.loop-start.invariant.0)
+loop-start-smaller c = let h = rw c.in-Some.is at c.heading_in.ensures in omega (arith, h.later, h.next, c.loop-start.invariant.0)
 
 pub loop-start-preserved : goal.loop-start-preserved
 loop-start-preserved c = let a = c.args in
     let l = c.loop-start in
     let x : List ℕ = slug (source_text a.heading a.contents.now a.work.now) in
-    let h = rw c.in-Next.is at c.heading_in.ensures in
-    let e = part-text a.text a.contents.now a.work.now c.in-Next.start c.in-Next.end c.requires.0.0 h.within c.part_of.result c.part_of.ensures in
+    let h = rw c.in-Some.is at c.heading_in.ensures in
+    let e = part-text a.text a.contents.now a.work.now c.in-Some.start c.in-Some.end c.requires.0.0 h.within c.part_of.result c.part_of.ensures in
     (h.next, l.invariant.1 ∙ line_miss h x (ap (λ (t : List ℕ). equals x (slug t)) (sym e) ∙ sym c.same_in.ensures ∙ c.if-same_in.false))

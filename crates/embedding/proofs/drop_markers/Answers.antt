@@ -25,49 +25,49 @@ next_region-r-requires c =
 pub slice_bounds-line_after-end : goal.slice_bounds-line_after-end
 slice_bounds-line_after-end c = omega arith
 
-pub slice_bounds-line_after-end-in-Whole : goal.slice_bounds-line_after-end-in-Whole
-slice_bounds-line_after-end-in-Whole c = sym (length-take-le c.args.n c.loop-g.work (omega arith))
+pub slice_bounds-line_after-end-in-Some : goal.slice_bounds-line_after-end-in-Some
+slice_bounds-line_after-end-in-Some c = sym (length-take-le c.args.n c.loop-g.work (omega arith))
 
 pub line_after-start-requires : goal.line_after-start-requires
 line_after-start-requires c =
     let l = c.loop-g in
     let k = length-take-le c.args.n l.work (omega arith) in
-    let f = rw c.in-Whole.is at c.next_region-r.ensures in
+    let f = rw c.in-Some.is at c.next_region-r.ensures in
     let h = dropped_places l.invariant (omega arith) f.0 refl refl in
     omega arith
 
-pub slice_bounds-line_after-end-in-Whole-2 : goal.slice_bounds-line_after-end-in-Whole-2
-slice_bounds-line_after-end-in-Whole-2 c = omega arith
+pub slice_bounds-line_after-end-in-Some-2 : goal.slice_bounds-line_after-end-in-Some-2
+slice_bounds-line_after-end-in-Some-2 c = omega arith
 
-pub slice_bounds-line_after-end-in-Whole-3 : goal.slice_bounds-line_after-end-in-Whole-3
-slice_bounds-line_after-end-in-Whole-3 c = sym (length-take-le c.args.n c.loop-g.work (omega arith))
+pub slice_bounds-line_after-end-in-Some-3 : goal.slice_bounds-line_after-end-in-Some-3
+slice_bounds-line_after-end-in-Some-3 c = sym (length-take-le c.args.n c.loop-g.work (omega arith))
 
 pub line_after-next-requires : goal.line_after-next-requires
 line_after-next-requires c =
     let l = c.loop-g in
     let k = length-take-le c.args.n l.work (omega arith) in
-    let f = rw c.in-Whole.is at c.next_region-r.ensures in
+    let f = rw c.in-Some.is at c.next_region-r.ensures in
     let h = dropped_places l.invariant (omega arith) f.0 refl refl in
     omega arith
 
 pub copy_both-at-requires : goal.copy_both-at-requires
 copy_both-at-requires c =
     let l = c.loop-g in
-    let f = rw c.in-Whole.is at c.next_region-r.ensures in
+    let f = rw c.in-Some.is at c.next_region-r.ensures in
     let h = dropped_places l.invariant (omega arith) f.0 c.line_after-start.ensures.0 refl in
     omega arith
 
 pub loop-g-smaller : goal.loop-g-smaller
 loop-g-smaller c =
     let l = c.loop-g in
-    let f = rw c.in-Whole.is at c.next_region-r.ensures in
+    let f = rw c.in-Some.is at c.next_region-r.ensures in
     let h = dropped_places l.invariant (omega arith) f.0 c.line_after-start.ensures.0 c.line_after-next.ensures.0 in
     omega arith
 
 pub loop-g-preserved : goal.loop-g-preserved
 loop-g-preserved c =
     let l = c.loop-g in
-    let f = rw c.in-Whole.is at c.next_region-r.ensures in
+    let f = rw c.in-Some.is at c.next_region-r.ensures in
     dropped_turn l.invariant (omega arith) f.0 c.line_after-start.ensures.0 c.line_after-next.ensures.0 c.copy_both-at.ensures.out_after c.copy_both-at.ensures.value
 
 pub copy_down-requires : goal.copy_down-requires
@@ -76,10 +76,10 @@ copy_down-requires c =
     let h = dropped-within l.invariant (omega arith) in
     omega arith
 
-pub shape_of-work-in-NoMore : goal.shape_of-work-in-NoMore
-shape_of-work-in-NoMore c = omega arith
+pub shape_of-work-in-None : goal.shape_of-work-in-None
+shape_of-work-in-None c = omega arith
 
-pub returns-in-NoMore : goal.returns-in-NoMore
-returns-in-NoMore c =
+pub returns-in-None : goal.returns-in-None
+returns-in-None c =
     let l = c.loop-g in
-    dropped-last l.invariant (omega arith) (rw c.in-NoMore.is at c.next_region-r.ensures) c.copy_down.ensures.0 c.copy_down.ensures.1
+    dropped-last l.invariant (omega arith) (rw c.in-None.is at c.next_region-r.ensures) c.copy_down.ensures.0 c.copy_down.ensures.1

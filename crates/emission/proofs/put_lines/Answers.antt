@@ -42,7 +42,7 @@ line_in-requires c =
     let z = shift_kept s.args.shift s.requires.1.1 in
     let i = rw z at c.loop-m.invariant in
     let h = c.unlinked_in-passed.ensures in
-    let b = putting_block s.requires.0 i h _ _ (rw c.in-To.is at c.put_block.ensures) in
+    let b = putting_block s.requires.0 i h _ _ (rw c.in-Some.is at c.put_block.ensures) in
     (able_read s.requires.0 b.reached, cursor_in s.requires.0 b)
 
 pub shape_of-work-in_default-line_in : goal.shape_of-work-in_default-line_in
@@ -54,7 +54,7 @@ returns-in_default-line_in c =
     let z = shift_kept s.args.shift s.requires.1.1 in
     let i = rw z at c.loop-m.invariant in
     let h = c.unlinked_in-passed.ensures in
-    let b = putting_block s.requires.0 i h _ _ (rw c.in-To.is at c.put_block.ensures) in
+    let b = putting_block s.requires.0 i h _ _ (rw c.in-Some.is at c.put_block.ensures) in
     putting_end s.requires.0 b (rw c.in_default-line_in.is at c.line_in.ensures)
 
 pub put_next-requires : goal.put_next-requires
@@ -63,8 +63,8 @@ put_next-requires c =
     let z = shift_kept s.args.shift s.requires.1.1 in
     let i = rw z at c.loop-m.invariant in
     let h = c.unlinked_in-passed.ensures in
-    let b = putting_block s.requires.0 i h _ _ (rw c.in-To.is at c.put_block.ensures) in
-    let g = c.in-Line in
+    let b = putting_block s.requires.0 i h _ _ (rw c.in-Some.is at c.put_block.ensures) in
+    let g = c.in-Some in
     let l = rw g.is at c.line_in.ensures in
     let o = line_bounds s.requires.0 b g.a g.e g.kind g.behind l in
     let k = line-kind s.requires.0 b g.a g.e g.kind g.behind l in
@@ -79,8 +79,8 @@ returns-in_default-put_next c =
     let z = shift_kept s.args.shift s.requires.1.1 in
     let i = rw z at c.loop-m.invariant in
     let h = c.unlinked_in-passed.ensures in
-    let b = putting_block s.requires.0 i h _ _ (rw c.in-To.is at c.put_block.ensures) in
-    let g = c.in-Line in
+    let b = putting_block s.requires.0 i h _ _ (rw c.in-Some.is at c.put_block.ensures) in
+    let g = c.in-Some in
     let l = rw g.is at c.line_in.ensures in
     let f = rewriting_same s.args.contents.now s.requires.1.0 b.reached s.args.url.now s.args.dir.now in
     line_over s.requires.0 b g.a g.e g.kind g.behind l f c.moved_kind-moved.ensures z (rw c.in_default-put_next.is at c.put_next.ensures)
@@ -91,8 +91,8 @@ loop-m-smaller c =
     let z = shift_kept s.args.shift s.requires.1.1 in
     let i = rw z at c.loop-m.invariant in
     let h = c.unlinked_in-passed.ensures in
-    let b = putting_block s.requires.0 i h _ _ (rw c.in-To.is at c.put_block.ensures) in
-    let g = c.in-Line in
+    let b = putting_block s.requires.0 i h _ _ (rw c.in-Some.is at c.put_block.ensures) in
+    let g = c.in-Some in
     let l = rw g.is at c.line_in.ensures in
     omega (arith, line-less s.requires.0 b g.a g.e g.kind g.behind l, block_bounds s.requires.0 i h)
 
@@ -102,9 +102,9 @@ loop-m-preserved c =
     let z = shift_kept s.args.shift s.requires.1.1 in
     let i = rw z at c.loop-m.invariant in
     let h = c.unlinked_in-passed.ensures in
-    let b = putting_block s.requires.0 i h _ _ (rw c.in-To.is at c.put_block.ensures) in
-    let g = c.in-Line in
+    let b = putting_block s.requires.0 i h _ _ (rw c.in-Some.is at c.put_block.ensures) in
+    let g = c.in-Some in
     let l = rw g.is at c.line_in.ensures in
     let f = rewriting_same s.args.contents.now s.requires.1.0 b.reached s.args.url.now s.args.dir.now in
     rw (c.titled_by-titled.ensures, z)
-    (putting_on s.requires.0 b g.a g.e g.kind g.behind l f c.moved_kind-moved.ensures z _ _ (rw c.in-To-put_next.is at c.put_next.ensures))
+    (putting_on s.requires.0 b g.a g.e g.kind g.behind l f c.moved_kind-moved.ensures z _ _ (rw c.in-Some-put_next.is at c.put_next.ensures))

@@ -26,7 +26,7 @@ pub put_part-requires : goal.put_part-requires
 put_part-requires c =
     let s = c in
     let x = part s.args.from.at (s.args.to.at - 1) (source_text s.args.source s.args.contents.now s.args.work.now) in
-    let b = broken s.args.work.now s.requires.0.below s.args.from.line x _ _ (rw c.in-To.is at c.put_break.ensures) in
+    let b = broken s.args.work.now s.requires.0.below s.args.from.line x _ _ (rw c.in-Some.is at c.put_break.ensures) in
     let m : s.args.from.at < s.args.to.at = s.requires.1.1.1 (omega arith) in
     (able_on s.requires.0 b, (omega arith, omega (arith, s.requires.0.inside.0)))
 
@@ -34,7 +34,7 @@ pub returns : goal.returns
 returns c =
     let s = c in
     let x = part s.args.from.at (s.args.to.at - 1) (source_text s.args.source s.args.contents.now s.args.work.now) in
-    let q = rw c.in-To.is at c.put_break.ensures in
+    let q = rw c.in-Some.is at c.put_break.ensures in
     let b = broken s.args.work.now s.requires.0.below s.args.from.line x _ _ q in
     rw (lt-leb s.args.to.line s.args.from.line (omega (arith, c.if-to-from.false)))
     (broken_put s.args.work.now s.requires.0.below s.args.from.line x _ _ q (ap (part s.args.from.at (s.args.to.at - 1)) (source-same s.requires.0 b)) c.put_part.new.work c.put_part.result c.put_part.ensures)

@@ -27,9 +27,9 @@ part_of-text-requires c = let s = c in
 pub put_links-requires : goal.put_links-requires
 put_links-requires c = let s = c in
     let a = s.args in
-    (rw c.part_of-text.ensures (new_able s.requires.0 (rewrite_target (titles_in a.index.now a.contents.now a.work.now a.set.now a.count) a.url.now a.dir.now) a.shift a.start a.end s.requires.1.1.0 s.requires.1.1.1.0 a.kind (open_line a.kind c.in_default.not-Quoted) s.requires.1.1.1.1.0 c.new_text-new.result (rw (shift_kept a.shift s.requires.1.1.1.1.1) at c.new_text-new.ensures) _ _ (rw c.in-To.is at c.put_level.ensures)), all_on a.contents.now s.requires.1.0 (new_reached s.requires.0 (rewrite_target (titles_in a.index.now a.contents.now a.work.now a.set.now a.count) a.url.now a.dir.now) a.shift a.start a.end s.requires.1.1.0 s.requires.1.1.1.0 a.kind (open_line a.kind c.in_default.not-Quoted) s.requires.1.1.1.1.0 c.new_text-new.result (rw (shift_kept a.shift s.requires.1.1.1.1.1) at c.new_text-new.ensures) _ _ (rw c.in-To.is at c.put_level.ensures)))
+    (rw c.part_of-text.ensures (new_able s.requires.0 (rewrite_target (titles_in a.index.now a.contents.now a.work.now a.set.now a.count) a.url.now a.dir.now) a.shift a.start a.end s.requires.1.1.0 s.requires.1.1.1.0 a.kind (open_line a.kind c.in_default.not-Quoted) s.requires.1.1.1.1.0 c.new_text-new.result (rw (shift_kept a.shift s.requires.1.1.1.1.1) at c.new_text-new.ensures) _ _ (rw c.in-Some.is at c.put_level.ensures)), all_on a.contents.now s.requires.1.0 (new_reached s.requires.0 (rewrite_target (titles_in a.index.now a.contents.now a.work.now a.set.now a.count) a.url.now a.dir.now) a.shift a.start a.end s.requires.1.1.0 s.requires.1.1.1.0 a.kind (open_line a.kind c.in_default.not-Quoted) s.requires.1.1.1.1.0 c.new_text-new.result (rw (shift_kept a.shift s.requires.1.1.1.1.1) at c.new_text-new.ensures) _ _ (rw c.in-Some.is at c.put_level.ensures)))
 
 pub returns : goal.returns
 returns c = let s = c in
     let a = s.args in
-    new_put s.requires.0 (rewrite_target (titles_in a.index.now a.contents.now a.work.now a.set.now a.count) a.url.now a.dir.now) a.shift a.start a.end s.requires.1.1.0 s.requires.1.1.1.0 a.kind (open_line a.kind c.in_default.not-Quoted) s.requires.1.1.1.1.0 c.new_text-new.result (rw (shift_kept a.shift s.requires.1.1.1.1.1) at c.new_text-new.ensures) _ _ (rw c.in-To.is at c.put_level.ensures) (rewriting_same a.contents.now s.requires.1.0 (new_reached s.requires.0 (rewrite_target (titles_in a.index.now a.contents.now a.work.now a.set.now a.count) a.url.now a.dir.now) a.shift a.start a.end s.requires.1.1.0 s.requires.1.1.1.0 a.kind (open_line a.kind c.in_default.not-Quoted) s.requires.1.1.1.1.0 c.new_text-new.result (rw (shift_kept a.shift s.requires.1.1.1.1.1) at c.new_text-new.ensures) _ _ (rw c.in-To.is at c.put_level.ensures)) a.url.now a.dir.now) _ c.put_links.result (rw c.part_of-text.ensures at c.put_links.ensures)
+    new_put s.requires.0 (rewrite_target (titles_in a.index.now a.contents.now a.work.now a.set.now a.count) a.url.now a.dir.now) a.shift a.start a.end s.requires.1.1.0 s.requires.1.1.1.0 a.kind (open_line a.kind c.in_default.not-Quoted) s.requires.1.1.1.1.0 c.new_text-new.result (rw (shift_kept a.shift s.requires.1.1.1.1.1) at c.new_text-new.ensures) _ _ (rw c.in-Some.is at c.put_level.ensures) (rewriting_same a.contents.now s.requires.1.0 (new_reached s.requires.0 (rewrite_target (titles_in a.index.now a.contents.now a.work.now a.set.now a.count) a.url.now a.dir.now) a.shift a.start a.end s.requires.1.1.0 s.requires.1.1.1.0 a.kind (open_line a.kind c.in_default.not-Quoted) s.requires.1.1.1.1.0 c.new_text-new.result (rw (shift_kept a.shift s.requires.1.1.1.1.1) at c.new_text-new.ensures) _ _ (rw c.in-Some.is at c.put_level.ensures)) a.url.now a.dir.now) _ c.put_links.result (rw c.part_of-text.ensures at c.put_links.ensures)

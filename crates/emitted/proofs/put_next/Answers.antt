@@ -26,7 +26,7 @@ put_line-requires c =
     let s = c in
     let f = rewrite_target (titles_in s.args.index.now s.args.contents.now s.args.work.now s.args.set.now s.args.count) s.args.url.now s.args.dir.now in
     let x = emitted_line f s.args.shift (record { kind = s.args.kind; bytes = part s.args.start s.args.end (source_text s.args.source s.args.contents.now s.args.work.now) }) in
-    let q = rw c.in-To.is at c.put_break.ensures in
+    let q = rw c.in-Some.is at c.put_break.ensures in
     let b = broken s.args.work.now s.requires.0.below s.args.n x _ _ q in
     (able_on s.requires.0 b, (all_on s.args.contents.now s.requires.1.0 b, (s.requires.1.1.0, (s.requires.1.1.1.0, (s.requires.1.1.1.1.0, rw (shift_kept s.args.shift s.requires.1.1.1.1.1) s.requires.1.1.1.1.1)))))
 
@@ -35,7 +35,7 @@ returns c =
     let s = c in
     let f = rewrite_target (titles_in s.args.index.now s.args.contents.now s.args.work.now s.args.set.now s.args.count) s.args.url.now s.args.dir.now in
     let x = emitted_line f s.args.shift (record { kind = s.args.kind; bytes = part s.args.start s.args.end (source_text s.args.source s.args.contents.now s.args.work.now) }) in
-    let q = rw c.in-To.is at c.put_break.ensures in
+    let q = rw c.in-Some.is at c.put_break.ensures in
     let b = broken s.args.work.now s.requires.0.below s.args.n x _ _ q in
     broken_put s.args.work.now s.requires.0.below s.args.n x _ _ q
     (ap (λ (y : ℤ). emitted_line (rewrite_target (titles_in s.args.index.now s.args.contents.now c.put_break.new.work s.args.set.now s.args.count) s.args.url.now s.args.dir.now) y

@@ -14,35 +14,35 @@ pub next_line-l-requires : goal.next_line-l-requires
 next_line-l-requires c = (c.loop-number.invariant.0, c.loop-number.invariant.1.0)
 
 pub slice_bounds-kind_at-count : goal.slice_bounds-kind_at-count
-slice_bounds-kind_at-count c = let h = rw c.in-LineAt.is at c.next_line-l.ensures in h.1.0
+slice_bounds-kind_at-count c = let h = rw c.in-Some.is at c.next_line-l.ensures in h.1.0
 
 pub slice_bounds-kind_at-start : goal.slice_bounds-kind_at-start
-slice_bounds-kind_at-start c = let h = rw c.in-LineAt.is at c.next_line-l.ensures in omega (arith, h.1)
+slice_bounds-kind_at-start c = let h = rw c.in-Some.is at c.next_line-l.ensures in omega (arith, h.1)
 
 pub slice_bounds-kind_at-end : goal.slice_bounds-kind_at-end
-slice_bounds-kind_at-end c = let h = rw c.in-LineAt.is at c.next_line-l.ensures in omega (arith, h.1)
+slice_bounds-kind_at-end c = let h = rw c.in-Some.is at c.next_line-l.ensures in omega (arith, h.1)
 
 pub kind_at-kind-requires : goal.kind_at-kind-requires
-kind_at-kind-requires c = let h = rw c.in-LineAt.is at c.next_line-l.ensures in let s = c.args.s.now in
-    let w = part_length s c.in-LineAt.start c.in-LineAt.end in
+kind_at-kind-requires c = let h = rw c.in-Some.is at c.next_line-l.ensures in let s = c.args.s.now in
+    let w = part_length s c.in-Some.start c.in-Some.end in
     omega (arith, h.1)
 
 pub slice_bounds-put_line-count : goal.slice_bounds-put_line-count
-slice_bounds-put_line-count c = let h = rw c.in-LineAt.is at c.next_line-l.ensures in h.1.0
+slice_bounds-put_line-count c = let h = rw c.in-Some.is at c.next_line-l.ensures in h.1.0
 
 pub slice_bounds-put_line-start : goal.slice_bounds-put_line-start
-slice_bounds-put_line-start c = let h = rw c.in-LineAt.is at c.next_line-l.ensures in omega (arith, h.1)
+slice_bounds-put_line-start c = let h = rw c.in-Some.is at c.next_line-l.ensures in omega (arith, h.1)
 
 pub slice_bounds-put_line-end : goal.slice_bounds-put_line-end
-slice_bounds-put_line-end c = let h = rw c.in-LineAt.is at c.next_line-l.ensures in omega (arith, h.1)
+slice_bounds-put_line-end c = let h = rw c.in-Some.is at c.next_line-l.ensures in omega (arith, h.1)
 
 pub put_line-to-requires : goal.put_line-to-requires
-put_line-to-requires c = let h = rw c.in-LineAt.is at c.next_line-l.ensures in let s = c.args.s.now in
-    let w = part_length s c.in-LineAt.start c.in-LineAt.end in
+put_line-to-requires c = let h = rw c.in-Some.is at c.next_line-l.ensures in let s = c.args.s.now in
+    let w = part_length s c.in-Some.start c.in-Some.end in
     (omega (arith, h.1), c.kind_at-kind.ensures)
 
 pub loop-number-smaller : goal.loop-number-smaller
-loop-number-smaller c = let h = rw c.in-LineAt.is at c.next_line-l.ensures in omega (arith, h.1)
+loop-number-smaller c = let h = rw c.in-Some.is at c.next_line-l.ensures in omega (arith, h.1)
 
 pub loop-number-preserved : goal.loop-number-preserved
 loop-number-preserved c =
@@ -51,7 +51,7 @@ loop-number-preserved c =
     let a = c.args in
     let nl = c.next_line-l in
     let ka = c.kind_at-kind in
-    let h = rw c.in-LineAt.is at nl.ensures in (
+    let h = rw c.in-Some.is at nl.ensures in (
       h.1.1.1.1.0,
       (
         h.1.1.1.1.1,
@@ -65,16 +65,16 @@ loop-number-preserved c =
 pub put_last-requires : goal.put_last-requires
 put_last-requires c = (c.loop-number.invariant.0, c.loop-number.invariant.1.0)
 
-pub shape_of-log-in-TextEnd : goal.shape_of-log-in-TextEnd
-shape_of-log-in-TextEnd c = omega (arith, c.put_last.auto, c.loop-number.invariant.1.1)
+pub shape_of-log-in-None : goal.shape_of-log-in-None
+shape_of-log-in-None c = omega (arith, c.put_last.auto, c.loop-number.invariant.1.1)
 
-pub shape_of-out-in-TextEnd : goal.shape_of-out-in-TextEnd
-shape_of-out-in-TextEnd c = omega (arith, c.put_last.auto, c.loop-number.invariant.1.1)
+pub shape_of-out-in-None : goal.shape_of-out-in-None
+shape_of-out-in-None c = omega (arith, c.put_last.auto, c.loop-number.invariant.1.1)
 
-pub returns-in-TextEnd : goal.returns-in-TextEnd
-returns-in-TextEnd c =
+pub returns-in-None : goal.returns-in-None
+returns-in-None c =
     let l = c.loop-number in
     let a = c.args in
     let nl = c.next_line-l in
     let la = c.put_last in
-    ended a.s.now l.a l.n 0 0 0 0 l.st _ _ _ l.invariant.1.1.1.1 (rw c.in-TextEnd.is at nl.ensures) la.ensures
+    ended a.s.now l.a l.n 0 0 0 0 l.st _ _ _ l.invariant.1.1.1.1 (rw c.in-None.is at nl.ensures) la.ensures

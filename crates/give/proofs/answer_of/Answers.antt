@@ -1,8 +1,8 @@
 -- `answer_of` meets its contract. Assumes nothing.
 use Rattle.give.proofs.answer_of.Goals as goal
 
-pub returns-in-Text : goal.returns-in-Text
-returns-in-Text c = rw c.in-Text.is
+pub returns-in-Ok : goal.returns-in-Ok
+returns-in-Ok c = rw c.in-Ok.is
 
-pub returns-in-Refused : goal.returns-in-Refused
-returns-in-Refused c = rw c.in-Refused.is
+pub returns-in-Err : goal.returns-in-Err
+returns-in-Err c = rw c.in-Err.is

@@ -11,12 +11,12 @@ pub shift_in-requires : goal.shift_in-requires
 shift_in-requires c = let s = c in shift_ready s.requires.0 s.args.i s.requires.1.0 c.member_at-m.result c.member_at-m.ensures c.text_of.result c.text_of.ensures
 
 pub put_behind-requires : goal.put_behind-requires
-put_behind-requires c = let s = c in let h = rw c.in-By.is at c.shift_in.ensures in (s.requires.0, (s.requires.1.0, (rw (shift_kept c.in-By.shift h.1.0) h.1.0, s.requires.1.1)))
+put_behind-requires c = let s = c in let h = rw c.in-Ok.is at c.shift_in.ensures in (s.requires.0, (s.requires.1.0, (rw (shift_kept c.in-Ok.shift h.1.0) h.1.0, s.requires.1.1)))
 
-pub returns-in-By : goal.returns-in-By
-returns-in-By c = let s = c in let h = rw c.in-By.is at c.shift_in.ensures in
-    rw c.answer_of.ensures (behind-lines s.args.room s.args.work.now s.requires.0 s.args.i s.requires.1.0 s.args.url.now c.member_at-m.result c.member_at-m.ensures c.text_of.result c.text_of.ensures _ s.requires.1.1 c.in-By.shift h c.put_behind.result (rw (shift_kept c.in-By.shift h.1.0) at c.put_behind.ensures))
+pub returns-in-Ok : goal.returns-in-Ok
+returns-in-Ok c = let s = c in let h = rw c.in-Ok.is at c.shift_in.ensures in
+    rw c.answer_of.ensures (behind-lines s.args.room s.args.work.now s.requires.0 s.args.i s.requires.1.0 s.args.url.now c.member_at-m.result c.member_at-m.ensures c.text_of.result c.text_of.ensures _ s.requires.1.1 c.in-Ok.shift h c.put_behind.result (rw (shift_kept c.in-Ok.shift h.1.0) at c.put_behind.ensures))
 
-pub returns-in-PastAt : goal.returns-in-PastAt
-returns-in-PastAt c = let s = c in let h = rw c.in-PastAt.is at c.shift_in.ensures in
-    behind-past s.args.room s.args.work.now s.requires.0 s.args.i s.requires.1.0 s.args.url.now c.member_at-m.result c.member_at-m.ensures c.text_of.result c.text_of.ensures s.args.work.now c.in-PastAt.line h
+pub returns-in-Err : goal.returns-in-Err
+returns-in-Err c = let s = c in let h = rw c.in-Err.is at c.shift_in.ensures in
+    behind-past s.args.room s.args.work.now s.requires.0 s.args.i s.requires.1.0 s.args.url.now c.member_at-m.result c.member_at-m.ensures c.text_of.result c.text_of.ensures s.args.work.now c.in-Err.line h

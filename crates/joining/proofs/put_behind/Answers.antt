@@ -27,14 +27,14 @@ slice_bounds-put_lines-end c = omega (arith, (member_stands c.requires.0 c.args.
 
 pub put_lines-requires : goal.put_lines-requires
 put_lines-requires c = let s = c in
-    let p = rw c.in-To.is at c.put_rule.ensures in (
-      rule_text s.args.room s.args.work.now s.requires.0 s.args.i s.requires.1.0 s.requires.1.1.1 _ c.in-To.at p c.member_at-m.result c.member_at-m.ensures c.text_of-text.result c.text_of-text.ensures,
-      ((rule_able s.args.room s.args.work.now s.requires.0 s.args.i s.requires.1.0 s.requires.1.1.1 _ c.in-To.at p).stand, rw (shift_kept s.args.shift s.requires.1.1.0) s.requires.1.1.0),
+    let p = rw c.in-Some.is at c.put_rule.ensures in (
+      rule_text s.args.room s.args.work.now s.requires.0 s.args.i s.requires.1.0 s.requires.1.1.1 _ c.in-Some.at p c.member_at-m.result c.member_at-m.ensures c.text_of-text.result c.text_of-text.ensures,
+      ((rule_able s.args.room s.args.work.now s.requires.0 s.args.i s.requires.1.0 s.requires.1.1.1 _ c.in-Some.at p).stand, rw (shift_kept s.args.shift s.requires.1.1.0) s.requires.1.1.0),
     )
 
 pub returns : goal.returns
 returns c = let s = c in
-    let p = rw c.in-To.is at c.put_rule.ensures in
+    let p = rw c.in-Some.is at c.put_rule.ensures in
     let l = (member_stands s.requires.0 s.args.i s.requires.1.0 c.member_at-m.result c.member_at-m.ensures).lies in
     let d = dir_part s.args.index.now c.member_at-m.result.name.start c.member_at-m.result.name.end c.parent_dir.result l.forward l.named c.parent_dir.ensures.0 c.parent_dir.ensures.1 in
-    rule_lines s.args.room s.args.work.now s.requires.0 s.args.i s.requires.1.0 s.requires.1.1.1 _ c.in-To.at p s.args.url.now s.args.shift c.member_at-m.result c.member_at-m.ensures c.text_of-text.result c.text_of-text.ensures _ d _ c.put_lines.result (rw (shift_kept s.args.shift s.requires.1.1.0) at c.put_lines.ensures)
+    rule_lines s.args.room s.args.work.now s.requires.0 s.args.i s.requires.1.0 s.requires.1.1.1 _ c.in-Some.at p s.args.url.now s.args.shift c.member_at-m.result c.member_at-m.ensures c.text_of-text.result c.text_of-text.ensures _ d _ c.put_lines.result (rw (shift_kept s.args.shift s.requires.1.1.0) at c.put_lines.ensures)

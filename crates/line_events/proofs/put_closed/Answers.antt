@@ -3,10 +3,10 @@ use Rattle.event_log.specs.Sink.{put_all}
 use mathlib.Core.Path.{◌∙◌}
 use Rattle.line_events.proofs.put_closed.Goals as goal
 
-pub returns-in-Closed : goal.returns-in-Closed
+pub returns-in-None : goal.returns-in-None
 unfolding put_all
-returns-in-Closed c = rw c.in-Closed.is
+returns-in-None c = rw c.in-None.is
 
-pub returns-in-Open : goal.returns-in-Open
+pub returns-in-Some : goal.returns-in-Some
 unfolding put_all
-returns-in-Open c = rw c.in-Open.is (c.put.ensures ∙ rw c.closed.ensures)
+returns-in-Some c = rw c.in-Some.is (c.put.ensures ∙ rw c.closed.ensures)

@@ -33,7 +33,7 @@ fill_member-requires c = let l = c.loop-i in (can_fill c.requires (omega arith) 
 
 pub overflow_add-end : goal.overflow_add-end
 overflow_add-end c = let a = c.args in
-    let h : c.in-Text.length ≤ a.limit = rw c.in-Text.is at c.fill_member.ensures.filled_within.0 in
+    let h : c.in-Ok-Accepted.length ≤ a.limit = rw c.in-Ok-Accepted.is at c.fill_member.ensures.filled_within.0 in
     omega (arith, slots_fit a.limit a.records a.count (length a.work.now) c.loop-i.i c.requires.room (omega arith), suc-mul a.records a.limit, c.well_formed.1.1.1.1.1.1.1.1.0)
 
 pub put_member-requires : goal.put_member-requires
@@ -42,35 +42,35 @@ put_member-requires c = omega (arith, c.requires.lie.few)
 pub overflow_add-i : goal.overflow_add-i
 overflow_add-i c = omega (arith, c.requires.lie.few)
 
-pub loop-i-smaller-in-Text : goal.loop-i-smaller-in-Text
-loop-i-smaller-in-Text c = omega arith
+pub loop-i-smaller-in-Ok-Accepted : goal.loop-i-smaller-in-Ok-Accepted
+loop-i-smaller-in-Ok-Accepted c = omega arith
 
-pub loop-i-preserved-in-Text : goal.loop-i-preserved-in-Text
-loop-i-preserved-in-Text c = let a = c.args in let l = c.loop-i in let f = c.fill_member in let m = c.member_at-m in let here : l.i < a.count = omega (arith, c.loop-i-test.true) in
+pub loop-i-preserved-in-Ok-Accepted : goal.loop-i-preserved-in-Ok-Accepted
+loop-i-preserved-in-Ok-Accepted c = let a = c.args in let l = c.loop-i in let f = c.fill_member in let m = c.member_at-m in let here : l.i < a.count = omega (arith, c.loop-i-test.true) in
     let w : List ℕ = f.new.work in
-    let fits : c.in-Text.length ≤ a.limit = rw c.in-Text.is at f.ensures.filled_within.0 in
-    let q : text (take c.in-Text.length (drop (slot a.limit l.i) w)) c.in-Text.files ≡ filled a.allowance a.limit l.used (start_at (files_in a.index.now a.rows.now a.contents.now a.records) (file_in a.index.now a.contents.now l.work m.result)) = rw c.in-Text.is at f.ensures.work_after in
-    making_filled l.invariant here (c.requires.stand l.i here) m.result m.ensures w f.ensures.filled_within.1 (omega arith) c.put_member.new.set c.in-Text.length c.in-Text.files fits
+    let fits : c.in-Ok-Accepted.length ≤ a.limit = rw c.in-Ok-Accepted.is at f.ensures.filled_within.0 in
+    let q : text (take c.in-Ok-Accepted.length (drop (slot a.limit l.i) w)) c.in-Ok-Accepted.files ≡ filled a.allowance a.limit l.used (start_at (files_in a.index.now a.rows.now a.contents.now a.records) (file_in a.index.now a.contents.now l.work m.result)) = rw c.in-Ok-Accepted.is at f.ensures.work_after in
+    making_filled l.invariant here (c.requires.stand l.i here) m.result m.ensures w f.ensures.filled_within.1 (omega arith) c.put_member.new.set c.in-Ok-Accepted.length c.in-Ok-Accepted.files fits
     (c.put_member.ensures ∙ ap (λ (x : Member). sets l.set (11 * l.i) (numbers_of x)) c.placed.ensures) q
 
-pub overflow_add-i-in-NoRegion : goal.overflow_add-i-in-NoRegion
-overflow_add-i-in-NoRegion c = omega (arith, c.requires.lie.few)
+pub overflow_add-i-in-Ok-NoRegion : goal.overflow_add-i-in-Ok-NoRegion
+overflow_add-i-in-Ok-NoRegion c = omega (arith, c.requires.lie.few)
 
 pub loop-i-smaller : goal.loop-i-smaller
 loop-i-smaller c = omega arith
 
 pub loop-i-preserved : goal.loop-i-preserved
 loop-i-preserved c = let a = c.args in let l = c.loop-i in let f = c.fill_member in let m = c.member_at-m in let here : l.i < a.count = omega (arith, c.loop-i-test.true) in
-    let q : noRegion ≡ filled a.allowance a.limit l.used (start_at (files_in a.index.now a.rows.now a.contents.now a.records) (file_in a.index.now a.contents.now l.work m.result)) = rw c.in-NoRegion.is at f.ensures.work_after in
+    let q : noRegion ≡ filled a.allowance a.limit l.used (start_at (files_in a.index.now a.rows.now a.contents.now a.records) (file_in a.index.now a.contents.now l.work m.result)) = rw c.in-Ok-NoRegion.is at f.ensures.work_after in
     making_kept l.invariant here (c.requires.stand l.i here) m.result m.ensures f.new.work f.ensures.filled_within.1 (omega arith) q
 
-pub shape_of-work-in-Refused : goal.shape_of-work-in-Refused
-shape_of-work-in-Refused c = omega (arith, c.loop-i.invariant.kept)
+pub shape_of-work-in-Err : goal.shape_of-work-in-Err
+shape_of-work-in-Err c = omega (arith, c.loop-i.invariant.kept)
 
-pub returns-in-Refused : goal.returns-in-Refused
-returns-in-Refused c = let a = c.args in let l = c.loop-i in let f = c.fill_member in let m = c.member_at-m in let here : l.i < a.count = omega (arith, c.loop-i-test.true) in
-    let q : refusal c.in-Refused.refusal ≡ filled a.allowance a.limit l.used (start_at (files_in a.index.now a.rows.now a.contents.now a.records) (file_in a.index.now a.contents.now l.work m.result)) = rw c.in-Refused.is at f.ensures.work_after in
-    record { made_of = making_refused l.invariant here (c.requires.stand l.i here) m.result m.ensures c.in-Refused.refusal q; all_lie = lie_on l.invariant }
+pub returns-in-Err : goal.returns-in-Err
+returns-in-Err c = let a = c.args in let l = c.loop-i in let f = c.fill_member in let m = c.member_at-m in let here : l.i < a.count = omega (arith, c.loop-i-test.true) in
+    let q : refusal c.in-Err.refusal ≡ filled a.allowance a.limit l.used (start_at (files_in a.index.now a.rows.now a.contents.now a.records) (file_in a.index.now a.contents.now l.work m.result)) = rw c.in-Err.is at f.ensures.work_after in
+    record { made_of = making_refused l.invariant here (c.requires.stand l.i here) m.result m.ensures c.in-Err.refusal q; all_lie = lie_on l.invariant }
 
 pub shape_of-work : goal.shape_of-work
 shape_of-work c = omega (arith, c.loop-i.invariant.kept)

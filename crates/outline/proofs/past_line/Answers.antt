@@ -17,23 +17,23 @@ pub returns-in_default : goal.returns-in_default
 returns-in_default c = absurd (below-some c.loop-kind.titled c.loop-kind.invariant (rw c.in_default.is at c.next_line.ensures))
 
 pub goes_past-requires : goal.goes_past-requires
-goes_past-requires c = let l = rw c.in-Line.is at c.next_line.ensures in let p = c.requires in
+goes_past-requires c = let l = rw c.in-Some.is at c.next_line.ensures in let p = c.requires in
     (rw c.moved_kind-moved.ensures (below-level c.loop-kind.titled c.loop-kind.invariant l), rw (shift_kept c.args.shift p.0) p.0)
 
 pub returns-then-goes_past : goal.returns-then-goes_past
 returns-then-goes_past c =
-    let l = rw c.in-Line.is at c.next_line.ensures in
+    let l = rw c.in-Some.is at c.next_line.ensures in
     let k = shift_kept c.args.shift c.requires.0 in
     let b = rw k at c.loop-kind.invariant in
     let g = rw (k, c.moved_kind-moved.ensures) at c.goes_past.ensures in
     below-here c.loop-kind.titled b l (sym c.if-goes_past.true ∙ g)
 
 pub loop-kind-smaller : goal.loop-kind-smaller
-loop-kind-smaller c = let l = rw c.in-Line.is at c.next_line.ensures in omega (arith, line-next c.loop-kind.invariant.cursor l)
+loop-kind-smaller c = let l = rw c.in-Some.is at c.next_line.ensures in omega (arith, line-next c.loop-kind.invariant.cursor l)
 
 pub loop-kind-preserved : goal.loop-kind-preserved
 loop-kind-preserved c =
-    let l = rw c.in-Line.is at c.next_line.ensures in
+    let l = rw c.in-Some.is at c.next_line.ensures in
     let k = shift_kept c.args.shift c.requires.0 in
     let b = rw k at c.loop-kind.invariant in
     let g = rw (k, c.moved_kind-moved.ensures) at c.goes_past.ensures in

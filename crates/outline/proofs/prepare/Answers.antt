@@ -27,32 +27,32 @@ returns-in_default c =
 
 pub slice_bounds-end_with-count : goal.slice_bounds-end_with-count
 slice_bounds-end_with-count c =
-    let l = rw c.in-Line.is at c.next_line.ensures in
+    let l = rw c.in-Some.is at c.next_line.ensures in
     omega (arith, l.forward)
 
 pub slice_bounds-end_with-start : goal.slice_bounds-end_with-start
 slice_bounds-end_with-start c =
-    let l = rw c.in-Line.is at c.next_line.ensures in
+    let l = rw c.in-Some.is at c.next_line.ensures in
     omega (arith, l.forward, l.within)
 
 pub slice_bounds-end_with-end : goal.slice_bounds-end_with-end
 slice_bounds-end_with-end c =
-    let l = rw c.in-Line.is at c.next_line.ensures in
+    let l = rw c.in-Some.is at c.next_line.ensures in
     omega (arith, l.within)
 
 pub with_line-seen-requires : goal.with_line-seen-requires
 with_line-seen-requires c =
-    let l = rw c.in-Line.is at c.next_line.ensures in
-    line-placed c.in-Line.kind l (omega arith)
+    let l = rw c.in-Some.is at c.next_line.ensures in
+    line-placed c.in-Some.kind l (omega arith)
 
 pub loop-a-smaller : goal.loop-a-smaller
 loop-a-smaller c =
     let i = outlines_still c.loop-a.invariant c.pass-passed.ensures c.ended_at-seen.ensures in
-    let l = rw c.in-Line.is at c.next_line.ensures in
+    let l = rw c.in-Some.is at c.next_line.ensures in
     omega (arith, line-next i.cursor l, (passed-still (passed_none c.loop-a.invariant.cursor) c.pass-passed.ensures).order)
 
 pub loop-a-preserved : goal.loop-a-preserved
 loop-a-preserved c =
     let i = outlines_still c.loop-a.invariant c.pass-passed.ensures c.ended_at-seen.ensures in
-    let l = rw c.in-Line.is at c.next_line.ensures in
+    let l = rw c.in-Some.is at c.next_line.ensures in
     outlines_line i l c.with_line-seen.ensures (rw c.ended_at-seen.ensures c.end_with.ensures)

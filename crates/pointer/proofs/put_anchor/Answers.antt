@@ -42,9 +42,9 @@ returns-in_default c = let p = c.loop-at.invariant in
 pub loop-at-smaller : goal.loop-at-smaller
 loop-at-smaller c = let p = c.loop-at.invariant in
     let h : c.loop-at.at < c.args.room.limit = omega (arith, p.reached.below, c.if-at-limit.false) in
-    omega (arith, anchor_less c.requires p h c.in-Byte.next c.in-Byte.behind (rw c.in-Byte.is at c.byte_in.ensures))
+    omega (arith, anchor_less c.requires p h c.in-Some.next c.in-Some.behind (rw c.in-Some.is at c.byte_in.ensures))
 
 pub loop-at-preserved : goal.loop-at-preserved
 loop-at-preserved c = let p = c.loop-at.invariant in
     let h : c.loop-at.at < c.args.room.limit = omega (arith, p.reached.below, c.if-at-limit.false) in
-    anchor_on c.requires p h c.in-Byte.next c.in-Byte.behind (rw c.in-Byte.is at c.byte_in.ensures)
+    anchor_on c.requires p h c.in-Some.next c.in-Some.behind (rw c.in-Some.is at c.byte_in.ensures)

@@ -13,7 +13,7 @@ pub returns-in_default : goal.returns-in_default
 returns-in_default c = first_over (trim_slashes c.args.url.now) _ c.args.work.now c.requires.0 (rw (c.in_default.is, c.url_length-n.ensures.0) at c.put_bytes.ensures)
 
 pub put_bytes-requires-2 : goal.put_bytes-requires-2
-put_bytes-requires-2 c = let q = rw c.in-To.is at c.put_bytes.ensures in (q.below, omega (arith, c.put_bytes.auto, c.requires))
+put_bytes-requires-2 c = let q = rw c.in-Some.is at c.put_bytes.ensures in (q.below, omega (arith, c.put_bytes.auto, c.requires))
 
 pub returns : goal.returns
-returns c = second-put (trim_slashes c.args.url.now) _ c.args.work.now c.requires.0 _ _ (rw (c.in-To.is, c.url_length-n.ensures.0) at c.put_bytes.ensures) _ c.put_bytes-2.result c.put_bytes-2.ensures
+returns c = second-put (trim_slashes c.args.url.now) _ c.args.work.now c.requires.0 _ _ (rw (c.in-Some.is, c.url_length-n.ensures.0) at c.put_bytes.ensures) _ c.put_bytes-2.result c.put_bytes-2.ensures

@@ -28,7 +28,7 @@ pub loop-i-smaller : goal.loop-i-smaller
 loop-i-smaller c = omega arith
 
 pub loop-i-preserved : goal.loop-i-preserved
-loop-i-preserved c = (omega arith, (ap length c.put_member.ensures ∙ simp put-length c.loop-i.invariant.1.0, read_next c.loop-i.invariant.1.1 c.loop-i-test.true c.member_at-m.result c.member_at-m.ensures c.in-Titled.outline c.loop-i.invariant.1.0 c.requires.few (rw c.in-Titled.is at c.prepare_in.ensures) c.put_member.new.set c.put_member.ensures))
+loop-i-preserved c = (omega arith, (ap length c.put_member.ensures ∙ simp put-length c.loop-i.invariant.1.0, read_next c.loop-i.invariant.1.1 c.loop-i-test.true c.member_at-m.result c.member_at-m.ensures c.in-Some.outline c.loop-i.invariant.1.0 c.requires.few (rw c.in-Some.is at c.prepare_in.ensures) c.put_member.new.set c.put_member.ensures))
 
 pub returns : goal.returns
 returns c = far_end c.loop-i.invariant.1.1 c.loop-i-test.false

@@ -12,13 +12,13 @@ pub put_cuts-requires : goal.put_cuts-requires
 put_cuts-requires c =
     let s = c in
     let a = s.args in
-    let q = rw c.in-To.is at c.put_start.ensures in
+    let q = rw c.in-Some.is at c.put_start.ensures in
     rw c.part_of-text.ensures (text_able s.requires.0 a.host.now a.dir.now a.new.level a.new.start a.new.end s.requires.1.1.0 s.requires.1.1.1 _ _ q)
 
 pub returns : goal.returns
 returns c =
     let s = c in
     let a = s.args in
-    let q = rw c.in-To.is at c.put_start.ensures in
+    let q = rw c.in-Some.is at c.put_start.ensures in
     text-put s.requires.0 a.host.now a.dir.now a.new.level a.new.start a.new.end s.requires.1.1.0 s.requires.1.1.1 _ _ q _ c.put_cuts.result
     (rw c.part_of-text.ensures at c.put_cuts.ensures)

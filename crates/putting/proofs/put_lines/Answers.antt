@@ -36,7 +36,7 @@ pub returns-then-w : goal.returns-then-w
 returns-then-w c =
     let s = c in
     let z = shift_kept s.args.shift s.requires.1 in
-    lines_end s.requires.0 (rw z at c.loop-n.invariant) c.line_in-w.result (rw z at c.line_in-w.ensures) _ _ (rw c.in-To.is at c.put_line.ensures) c.if-w.true
+    lines_end s.requires.0 (rw z at c.loop-n.invariant) c.line_in-w.result (rw z at c.line_in-w.ensures) _ _ (rw c.in-Some.is at c.put_line.ensures) c.if-w.true
 
 pub overflow_add-a : goal.overflow_add-a
 overflow_add-a c = let w = c.line_in-w in omega (arith, line_before c.requires.0 c.loop-n.invariant w.result w.ensures c.if-w.false, c.requires.0.inside.0, c.well_formed)
@@ -45,4 +45,4 @@ pub loop-n-smaller : goal.loop-n-smaller
 loop-n-smaller c = let w = c.line_in-w in omega (arith, w.ensures.order, line_before c.requires.0 c.loop-n.invariant w.result w.ensures c.if-w.false)
 
 pub loop-n-preserved : goal.loop-n-preserved
-loop-n-preserved c = lines_on_lem c.requires.0 c.loop-n.invariant c.line_in-w.result c.line_in-w.ensures _ _ (rw c.in-To.is at c.put_line.ensures) c.if-w.false
+loop-n-preserved c = lines_on_lem c.requires.0 c.loop-n.invariant c.line_in-w.result c.line_in-w.ensures _ _ (rw c.in-Some.is at c.put_line.ensures) c.if-w.false

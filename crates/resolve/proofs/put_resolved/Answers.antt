@@ -24,13 +24,13 @@ returns-in_default c = written_all c.loop-before.invariant (rw c.in_default.is a
 pub put_kept-at-requires : goal.put_kept-at-requires
 put_kept-at-requires c =
     let w = c.loop-before.invariant in
-    let h = rw c.in-Part.is at c.last_part.ensures in
+    let h = rw c.in-Some.is at c.last_part.ensures in
     (h.bounded, (written-fits w h c.requires.0, omega (arith, w.place, written-length w)))
 
 pub loop-before-smaller : goal.loop-before-smaller
-loop-before-smaller c = let h = rw c.in-Part.is at c.last_part.ensures in omega (arith, h.less)
+loop-before-smaller c = let h = rw c.in-Some.is at c.last_part.ensures in omega (arith, h.less)
 
 pub loop-before-preserved : goal.loop-before-preserved
 loop-before-preserved c =
-    let h = rw c.in-Part.is at c.last_part.ensures in
+    let h = rw c.in-Some.is at c.last_part.ensures in
     written_on c.loop-before.invariant h _ _ c.put_kept-at.ensures

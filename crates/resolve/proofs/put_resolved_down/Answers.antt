@@ -40,14 +40,14 @@ put_kept_down-at-requires c =
     let p = s.requires in
     let w = c.loop-before.invariant in
     let l = c.last_part in
-    let h = rw c.in-Part.is at (down_last to p.1.0 w l.result l.ensures) in
+    let h = rw c.in-Some.is at (down_last to p.1.0 w l.result l.ensures) in
     (down_bounded to p.1.0 w h, (down_fits to p.1.0 w h p.0, (omega (arith, w.place, p.1.0), omega (arith, written-length w, p.1.1))))
 
 pub loop-before-smaller : goal.loop-before-smaller
 loop-before-smaller c =
     let s = c in
     let l = c.last_part in
-    let h = rw c.in-Part.is at (down_last s.args.to s.requires.1.0 c.loop-before.invariant l.result l.ensures) in
+    let h = rw c.in-Some.is at (down_last s.args.to s.requires.1.0 c.loop-before.invariant l.result l.ensures) in
     omega (arith, h.less)
 
 pub loop-before-preserved : goal.loop-before-preserved
@@ -55,5 +55,5 @@ loop-before-preserved c =
     let s = c in
     let w = c.loop-before.invariant in
     let l = c.last_part in
-    let h = rw c.in-Part.is at (down_last s.args.to s.requires.1.0 w l.result l.ensures) in
+    let h = rw c.in-Some.is at (down_last s.args.to s.requires.1.0 w l.result l.ensures) in
     down_on s.args.to s.requires.1.0 w h _ _ c.put_kept_down-at.ensures

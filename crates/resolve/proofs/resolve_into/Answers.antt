@@ -26,12 +26,12 @@ pub overflow_sub-end : goal.overflow_sub-end
 overflow_sub-end c = omega (arith, c.loop-before.invariant.1.place)
 
 pub overflow_sub-e : goal.overflow_sub-e
-overflow_sub-e c = let h = rw c.in-Part.is at c.last_part.ensures in omega (arith, h.bounded.0)
+overflow_sub-e c = let h = rw c.in-Some.is at c.last_part.ensures in omega (arith, h.bounded.0)
 
 pub lengthen-requires : goal.lengthen-requires
 lengthen-requires c =
     let i = c.loop-before.invariant in
-    let h = rw c.in-Part.is at c.last_part.ensures in
+    let h = rw c.in-Some.is at c.last_part.ensures in
     omega (arith, i.0, i.1.place, written_small i.1 h 0x7FFF_FFFF_FFFF_FFFF (omega arith) (omega arith))
 
 pub shape_of-out-then-end-lengthen : goal.shape_of-out-then-end-lengthen
@@ -40,23 +40,23 @@ shape_of-out-then-end-lengthen c = written-length c.loop-before.invariant.1
 pub returns-then-end-lengthen : goal.returns-then-end-lengthen
 returns-then-end-lengthen c =
     let i = c.loop-before.invariant in
-    let h = rw c.in-Part.is at c.last_part.ensures in
+    let h = rw c.in-Some.is at c.last_part.ensures in
     let n = c.lengthen.ensures in
     omega (arith, i.0, written-length i.1, written-long i.1 h (rw n at c.if-end-lengthen.true))
 
 pub put_kept-at-requires : goal.put_kept-at-requires
 put_kept-at-requires c =
     let i = c.loop-before.invariant in
-    let h = rw c.in-Part.is at c.last_part.ensures in
+    let h = rw c.in-Some.is at c.last_part.ensures in
     let n = c.lengthen.ensures in
     let f = rw n at c.if-end-lengthen.false in
     (h.bounded, (written-room i.1 h (omega arith), omega (arith, i.0, i.1.place, written-length i.1)))
 
 pub loop-before-smaller : goal.loop-before-smaller
-loop-before-smaller c = let h = rw c.in-Part.is at c.last_part.ensures in omega (arith, h.less)
+loop-before-smaller c = let h = rw c.in-Some.is at c.last_part.ensures in omega (arith, h.less)
 
 pub loop-before-preserved : goal.loop-before-preserved
 loop-before-preserved c =
     let i = c.loop-before.invariant in
-    let h = rw c.in-Part.is at c.last_part.ensures in
+    let h = rw c.in-Some.is at c.last_part.ensures in
     (i.0, written_on i.1 h _ _ c.put_kept-at.ensures)

@@ -18,15 +18,15 @@ returns-in_default c =
     m.size ∙ ap length (reached_root m.reached (rw c.in_default.is at c.last_part.ensures))
 
 pub overflow_sub-end : goal.overflow_sub-end
-overflow_sub-end c = let h = rw c.in-Part.is at c.last_part.ensures in omega (arith, h.bounded.0)
+overflow_sub-end c = let h = rw c.in-Some.is at c.last_part.ensures in omega (arith, h.bounded.0)
 
 pub lengthen-n-requires : goal.lengthen-n-requires
-lengthen-n-requires c = let h = rw c.in-Part.is at c.last_part.ensures in omega (arith, measured_fits c.loop-before.invariant h)
+lengthen-n-requires c = let h = rw c.in-Some.is at c.last_part.ensures in omega (arith, measured_fits c.loop-before.invariant h)
 
 pub loop-before-smaller : goal.loop-before-smaller
-loop-before-smaller c = let h = rw c.in-Part.is at c.last_part.ensures in omega (arith, h.less)
+loop-before-smaller c = let h = rw c.in-Some.is at c.last_part.ensures in omega (arith, h.less)
 
 pub loop-before-preserved : goal.loop-before-preserved
 loop-before-preserved c =
-    let h = rw c.in-Part.is at c.last_part.ensures in
+    let h = rw c.in-Some.is at c.last_part.ensures in
     rw c.lengthen-n.ensures (measured_on c.loop-before.invariant h)

@@ -24,20 +24,20 @@ returns-in_default c =
 
 pub find_kept-requires : goal.find_kept-requires
 find_kept-requires c =
-    let h = rw c.in-Part.is at c.last_part.ensures in
+    let h = rw c.in-Some.is at c.last_part.ensures in
     (h.bounded, c.loop-before.invariant.0)
 
 pub returns-in_default-find_kept : goal.returns-in_default-find_kept
 returns-in_default-find_kept c =
-    let h = rw c.in-Part.is at c.last_part.ensures in
+    let h = rw c.in-Some.is at c.last_part.ensures in
     let f = rw c.in_default-find_kept.is at c.find_kept.ensures in
     sym (reached_not c.loop-before.invariant.1 h c.args.name.now f)
 
 pub loop-before-smaller : goal.loop-before-smaller
-loop-before-smaller c = let h = rw c.in-Part.is at c.last_part.ensures in omega (arith, h.less)
+loop-before-smaller c = let h = rw c.in-Some.is at c.last_part.ensures in omega (arith, h.less)
 
 pub loop-before-preserved : goal.loop-before-preserved
 loop-before-preserved c =
-    let h = rw c.in-Part.is at c.last_part.ensures in
-    let f = rw c.in-At.is at c.find_kept.ensures in
+    let h = rw c.in-Some.is at c.last_part.ensures in
+    let f = rw c.in-Some.is at c.find_kept.ensures in
     (omega (arith, f.0), rw f.1 (reached_on c.loop-before.invariant.1 h))

@@ -24,7 +24,7 @@ returns-in_default c = cutting_end c.requires c.loop-start.invariant (rw c.in_de
 
 pub put_part-requires-in-loop-start : goal.put_part-requires-in-loop-start
 put_part-requires-in-loop-start c =
-    let b = cut_bounds c.requires c.loop-start.invariant c.in-Bytes.start c.in-Bytes.end c.in-Bytes.next (rw c.in-Bytes.is at c.cut_in.ensures) in
+    let b = cut_bounds c.requires c.loop-start.invariant c.in-Some.start c.in-Some.end c.in-Some.next (rw c.in-Some.is at c.cut_in.ensures) in
     (able_on c.requires c.loop-start.invariant.reached, (b.0, omega (arith, b, c.requires.inside.0)))
 
 pub shape_of-work-in_default-put_part : goal.shape_of-work-in_default-put_part
@@ -32,27 +32,27 @@ shape_of-work-in_default-put_part c = omega (arith, reached_length c.loop-start.
 
 pub returns-in_default-put_part : goal.returns-in_default-put_part
 returns-in_default-put_part c =
-    cut_over c.requires c.loop-start.invariant c.in-Bytes.start c.in-Bytes.end c.in-Bytes.next (rw c.in-Bytes.is at c.cut_in.ensures) (rw c.in_default-put_part.is at c.put_part-in-loop-start.ensures)
+    cut_over c.requires c.loop-start.invariant c.in-Some.start c.in-Some.end c.in-Some.next (rw c.in-Some.is at c.cut_in.ensures) (rw c.in_default-put_part.is at c.put_part-in-loop-start.ensures)
 
 pub put_part-requires-in-loop-start-2 : goal.put_part-requires-in-loop-start-2
 put_part-requires-in-loop-start-2 c =
-    let f = rw c.in-Bytes.is at c.cut_in.ensures in
-    let b = cut_bounds c.requires c.loop-start.invariant c.in-Bytes.start c.in-Bytes.end c.in-Bytes.next f in
-    (cut_able c.requires c.loop-start.invariant c.in-Bytes.start c.in-Bytes.end c.in-Bytes.next f _ _ (rw c.in-To.is at c.put_part-in-loop-start.ensures), (b.1.1.0, omega (arith, b, c.requires.inside.0)))
+    let f = rw c.in-Some.is at c.cut_in.ensures in
+    let b = cut_bounds c.requires c.loop-start.invariant c.in-Some.start c.in-Some.end c.in-Some.next f in
+    (cut_able c.requires c.loop-start.invariant c.in-Some.start c.in-Some.end c.in-Some.next f _ _ (rw c.in-Some.is at c.put_part-in-loop-start.ensures), (b.1.1.0, omega (arith, b, c.requires.inside.0)))
 
 pub shape_of-work-in_default-put_part-2 : goal.shape_of-work-in_default-put_part-2
 shape_of-work-in_default-put_part-2 c = omega (arith, reached_length c.loop-start.invariant.reached, c.put_part-in-loop-start.auto, c.put_part-in-loop-start-2.auto)
 
 pub returns-in_default-put_part-2 : goal.returns-in_default-put_part-2
 returns-in_default-put_part-2 c =
-    cut-after_over c.requires c.loop-start.invariant c.in-Bytes.start c.in-Bytes.end c.in-Bytes.next (rw c.in-Bytes.is at c.cut_in.ensures) _ _ (rw c.in-To.is at c.put_part-in-loop-start.ensures)
+    cut-after_over c.requires c.loop-start.invariant c.in-Some.start c.in-Some.end c.in-Some.next (rw c.in-Some.is at c.cut_in.ensures) _ _ (rw c.in-Some.is at c.put_part-in-loop-start.ensures)
     (rw c.in_default-put_part-2.is at c.put_part-in-loop-start-2.ensures)
 
 pub loop-start-smaller : goal.loop-start-smaller
 loop-start-smaller c =
-    omega (arith, cut_bounds c.requires c.loop-start.invariant c.in-Bytes.start c.in-Bytes.end c.in-Bytes.next (rw c.in-Bytes.is at c.cut_in.ensures))
+    omega (arith, cut_bounds c.requires c.loop-start.invariant c.in-Some.start c.in-Some.end c.in-Some.next (rw c.in-Some.is at c.cut_in.ensures))
 
 pub loop-start-preserved : goal.loop-start-preserved
 loop-start-preserved c =
-    cutting_on c.requires c.loop-start.invariant c.in-Bytes.start c.in-Bytes.end c.in-Bytes.next (rw c.in-Bytes.is at c.cut_in.ensures) _ _ (rw c.in-To.is at c.put_part-in-loop-start.ensures) _ _
-    (rw c.in-To-put_part.is at c.put_part-in-loop-start-2.ensures)
+    cutting_on c.requires c.loop-start.invariant c.in-Some.start c.in-Some.end c.in-Some.next (rw c.in-Some.is at c.cut_in.ensures) _ _ (rw c.in-Some.is at c.put_part-in-loop-start.ensures) _ _
+    (rw c.in-Some-put_part.is at c.put_part-in-loop-start-2.ensures)

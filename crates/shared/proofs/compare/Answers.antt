@@ -1,5 +1,5 @@
 -- `compare` meets its contract. The invariant: the members before member i are compared, and the table tells of them. Assumes nothing.
-use Rattle.shared.specs.declared.Shared.TheVariants.{Nowhere}
+use Rattle.std.specs.Prelude.{None}
 use Prim.Native.Nat.{◌+◌}
 use native.Mathlib.Omega.{arith}
 use mathlib.Core.Path.{◌∙◌}
@@ -29,22 +29,22 @@ compare_member-found-requires c = let a = c.args in
     let b = back_long a.work.now c.clear.new.out a.table a.stop (omega (arith, p.1.0)) p.1.1 (omega (arith, c.clear.auto)) in
     record { all_stand = (stand-first p.0 (l.i + 1) (omega arith), (p.1.0, omega (arith, l.invariant.long, b, p.1.1))); tells = turn_tells p.0 l.invariant (omega arith) }
 
-pub shape_of-work-in-At : goal.shape_of-work-in-At
-shape_of-work-in-At c = let a = c.args in
+pub shape_of-work-in-Some : goal.shape_of-work-in-Some
+shape_of-work-in-Some c = let a = c.args in
     let p = c.requires in
     let k = part_full a.work.now a.table a.stop p.1.1 in
     let b = back_long a.work.now c.clear.new.out a.table a.stop (omega (arith, p.1.0)) p.1.1 (omega (arith, c.clear.auto)) in
     c.compare_member-found.auto.work ∙ c.loop-i.invariant.long ∙ b
 
-pub returns-in-At : goal.returns-in-At
-returns-in-At c = let a = c.args in
+pub returns-in-Some : goal.returns-in-Some
+returns-in-Some c = let a = c.args in
     let p = c.requires in
     let l = c.loop-i in
     let m = c.compare_member-found in
     let k = part_full a.work.now a.table a.stop p.1.1 in
     let b = back_take a.work.now c.clear.new.out a.table a.stop (omega (arith, p.1.0)) p.1.1 (omega (arith, c.clear.auto)) in
-    let f = rw c.in-At.is at m.ensures.shared_of in
-    record { shared_of = entry_found p.0 l.invariant a.work.now b m.result (rw c.in-At.is (turn_found p.0 l.invariant (omega arith) c.in-At.field-0 c.in-At.field-1 f)); work_unchanged = m.ensures.work_unchanged ∙ l.invariant.same ∙ b }
+    let f = rw c.in-Some.is at m.ensures.shared_of in
+    record { shared_of = entry_found p.0 l.invariant a.work.now b m.result (rw c.in-Some.is (turn_found p.0 l.invariant (omega arith) c.in-Some.field-0 c.in-Some.field-1 f)); work_unchanged = m.ensures.work_unchanged ∙ l.invariant.same ∙ b }
 
 pub overflow_add-i : goal.overflow_add-i
 overflow_add-i c = omega arith
@@ -71,4 +71,4 @@ returns c = let a = c.args in
     let l = c.loop-i in
     let k = part_full a.work.now a.table a.stop p.1.1 in
     let b = back_take a.work.now c.clear.new.out a.table a.stop (omega (arith, p.1.0)) p.1.1 (omega (arith, c.clear.auto)) in
-    record { shared_of = entry_found p.0 l.invariant a.work.now b Nowhere (compared_end p.0 l.invariant (omega arith)); work_unchanged = l.invariant.same ∙ b }
+    record { shared_of = entry_found p.0 l.invariant a.work.now b None (compared_end p.0 l.invariant (omega arith)); work_unchanged = l.invariant.same ∙ b }

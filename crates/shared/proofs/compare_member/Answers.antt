@@ -34,13 +34,13 @@ returns-in_default c = let p = c.requires.all_stand in
 pub part_of-heading-requires : goal.part_of-heading-requires
 part_of-heading-requires c = let p = c.requires.all_stand in
     let x = c.loop-start.invariant in
-    let h = rw c.in-Next.is at (walk-found p.0 p.1.0 p.1.1 x c.heading_in.result c.heading_in.ensures) in
+    let h = rw c.in-Some.is at (walk-found p.0 p.1.0 p.1.1 x c.heading_in.result c.heading_in.ensures) in
     (h.forward, head_fits p.0 p.1.0 p.1.1 x h)
 
 pub number_in-number-requires : goal.number_in-number-requires
 number_in-number-requires c = let p = c.requires.all_stand in
     let x = c.loop-start.invariant in
-    let h = rw c.in-Next.is at (walk-found p.0 p.1.0 p.1.1 x c.heading_in.result c.heading_in.ensures) in
+    let h = rw c.in-Some.is at (walk-found p.0 p.1.0 p.1.1 x c.heading_in.result c.heading_in.ensures) in
     head_read p.0 p.1.0 p.1.1 x h c.part_of-heading.ensures c.loop-start.work x.long
 
 pub slice_bounds-mark_anchor-count : goal.slice_bounds-mark_anchor-count
@@ -62,44 +62,44 @@ pub earlier-second-requires : goal.earlier-second-requires
 earlier-second-requires c = let p = c.requires.all_stand in
     let a = c.args in
     let x = c.loop-start.invariant in
-    let h = rw c.in-Next.is at (walk-found p.0 p.1.0 p.1.1 x c.heading_in.result c.heading_in.ensures) in
+    let h = rw c.in-Some.is at (walk-found p.0 p.1.0 p.1.1 x c.heading_in.result c.heading_in.ensures) in
     let l = next-long p.0 p.1.0 p.1.1 x h c.part_of-heading.ensures c.number_in-number.ensures c.mark_anchor.ensures in
     (p.0, (omega (arith, l, p.1), head_read p.0 p.1.0 p.1.1 x h c.part_of-heading.ensures (backed c.loop-start.work c.mark_anchor.new.table a.table a.stop) l))
 
 pub shape_of-work-then-second-ne0 : goal.shape_of-work-then-second-ne0
 shape_of-work-then-second-ne0 c = let p = c.requires.all_stand in
     let x = c.loop-start.invariant in
-    let h = rw c.in-Next.is at (walk-found p.0 p.1.0 p.1.1 x c.heading_in.result c.heading_in.ensures) in
+    let h = rw c.in-Some.is at (walk-found p.0 p.1.0 p.1.1 x c.heading_in.result c.heading_in.ensures) in
     next-long p.0 p.1.0 p.1.1 x h c.part_of-heading.ensures c.number_in-number.ensures c.mark_anchor.ensures
 
 pub returns-then-second-ne0 : goal.returns-then-second-ne0
 returns-then-second-ne0 c = let p = c.requires.all_stand in
     let x = c.loop-start.invariant in
-    let h = rw c.in-Next.is at (walk-found p.0 p.1.0 p.1.1 x c.heading_in.result c.heading_in.ensures) in
+    let h = rw c.in-Some.is at (walk-found p.0 p.1.0 p.1.1 x c.heading_in.result c.heading_in.ensures) in
     let e = second-found p.0 p.1.0 p.1.1 x h c.part_of-heading.ensures c.number_in-number.ensures c.mark_anchor.ensures c.earlier-second.result c.earlier-second.ensures in record { shared_of = walk_hit p.0 p.1.0 p.1.1 x h c.part_of-heading.ensures c.number_in-number.ensures c.mark_anchor.ensures c.earlier-second.result e (λ z. omega arith); tells_after = tt; work_unchanged = next-same p.0 p.1.0 p.1.1 x h c.part_of-heading.ensures c.number_in-number.ensures c.mark_anchor.ensures }
 
 pub loop-start-smaller-else-second-ne0 : goal.loop-start-smaller-else-second-ne0
 loop-start-smaller-else-second-ne0 c = let p = c.requires.all_stand in
     let x = c.loop-start.invariant in
-    let h = rw c.in-Next.is at (walk-found p.0 p.1.0 p.1.1 x c.heading_in.result c.heading_in.ensures) in
+    let h = rw c.in-Some.is at (walk-found p.0 p.1.0 p.1.1 x c.heading_in.result c.heading_in.ensures) in
     omega (arith, h.later, h.next, x.inside)
 
 pub loop-start-preserved-else-second-ne0 : goal.loop-start-preserved-else-second-ne0
 loop-start-preserved-else-second-ne0 c = let p = c.requires.all_stand in
     let x = c.loop-start.invariant in
-    let h = rw c.in-Next.is at (walk-found p.0 p.1.0 p.1.1 x c.heading_in.result c.heading_in.ensures) in
+    let h = rw c.in-Some.is at (walk-found p.0 p.1.0 p.1.1 x c.heading_in.result c.heading_in.ensures) in
     let e = second-found p.0 p.1.0 p.1.1 x h c.part_of-heading.ensures c.number_in-number.ensures c.mark_anchor.ensures c.earlier-second.result c.earlier-second.ensures in
     walk-next p.0 p.1.0 p.1.1 x h c.part_of-heading.ensures c.number_in-number.ensures c.mark_anchor.ensures (ap (λ (r : Place). r.line) (sym e) ∙ c.if-second-ne0.false)
 
 pub loop-start-smaller : goal.loop-start-smaller
 loop-start-smaller c = let p = c.requires.all_stand in
     let x = c.loop-start.invariant in
-    let h = rw c.in-Next.is at (walk-found p.0 p.1.0 p.1.1 x c.heading_in.result c.heading_in.ensures) in
+    let h = rw c.in-Some.is at (walk-found p.0 p.1.0 p.1.1 x c.heading_in.result c.heading_in.ensures) in
     omega (arith, h.later, h.next, x.inside)
 
 pub loop-start-preserved : goal.loop-start-preserved
 loop-start-preserved c = let p = c.requires.all_stand in
     let x = c.loop-start.invariant in
-    let h = rw c.in-Next.is at (walk-found p.0 p.1.0 p.1.1 x c.heading_in.result c.heading_in.ensures) in
+    let h = rw c.in-Some.is at (walk-found p.0 p.1.0 p.1.1 x c.heading_in.result c.heading_in.ensures) in
     let e = second-alone p.0 p.1.0 p.1.1 x h c.part_of-heading.ensures c.number_in-number.ensures c.mark_anchor.ensures c.if-mark_anchor.false in
     walk-next p.0 p.1.0 p.1.1 x h c.part_of-heading.ensures c.number_in-number.ensures c.mark_anchor.ensures e

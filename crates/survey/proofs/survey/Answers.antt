@@ -14,18 +14,18 @@ pub next_line-l-requires : goal.next_line-l-requires
 next_line-l-requires c = (c.loop-number.invariant.0, c.loop-number.invariant.1.0)
 
 pub slice_bounds-kind_at-count : goal.slice_bounds-kind_at-count
-slice_bounds-kind_at-count c = let h = rw c.in-LineAt.is at c.next_line-l.ensures in h.1.0
+slice_bounds-kind_at-count c = let h = rw c.in-Some.is at c.next_line-l.ensures in h.1.0
 
 pub slice_bounds-kind_at-start : goal.slice_bounds-kind_at-start
-slice_bounds-kind_at-start c = let h = rw c.in-LineAt.is at c.next_line-l.ensures in omega (arith, h.1)
+slice_bounds-kind_at-start c = let h = rw c.in-Some.is at c.next_line-l.ensures in omega (arith, h.1)
 
 pub slice_bounds-kind_at-end : goal.slice_bounds-kind_at-end
-slice_bounds-kind_at-end c = let h = rw c.in-LineAt.is at c.next_line-l.ensures in omega (arith, h.1)
+slice_bounds-kind_at-end c = let h = rw c.in-Some.is at c.next_line-l.ensures in omega (arith, h.1)
 
 pub kind_at-kind-requires : goal.kind_at-kind-requires
 kind_at-kind-requires c =
-    let h = rw c.in-LineAt.is at c.next_line-l.ensures in
-    omega (arith, h.1, part_length c.args.s.now c.in-LineAt.start c.in-LineAt.end)
+    let h = rw c.in-Some.is at c.next_line-l.ensures in
+    omega (arith, h.1, part_length c.args.s.now c.in-Some.start c.in-Some.end)
 
 pub returns-then-fault-eq2 : goal.returns-then-fault-eq2
 returns-then-fault-eq2 c =
@@ -33,7 +33,7 @@ returns-then-fault-eq2 c =
     let f = c.args.file in
     let l = c.loop-number in
     λ name.
-    survey_nested s l.a l.n _ _ _ _ f l.any l.st _ l.invariant.1.1 (rw c.in-LineAt.is at c.next_line-l.ensures) c.kind_at-kind.ensures (sym c.fault_of-fault.ensures ∙ c.if-fault-eq2.true)
+    survey_nested s l.a l.n _ _ _ _ f l.any l.st _ l.invariant.1.1 (rw c.in-Some.is at c.next_line-l.ensures) c.kind_at-kind.ensures (sym c.fault_of-fault.ensures ∙ c.if-fault-eq2.true)
     ∙ survey_scanned f name s
 
 pub returns-then-fault-eq3 : goal.returns-then-fault-eq3
@@ -42,18 +42,18 @@ returns-then-fault-eq3 c =
     let f = c.args.file in
     let l = c.loop-number in
     λ name.
-    survey_marker s l.a l.n _ _ _ _ f l.any l.st _ l.invariant.1.1 (rw c.in-LineAt.is at c.next_line-l.ensures) c.kind_at-kind.ensures (sym c.fault_of-fault.ensures ∙ c.if-fault-eq3.true)
+    survey_marker s l.a l.n _ _ _ _ f l.any l.st _ l.invariant.1.1 (rw c.in-Some.is at c.next_line-l.ensures) c.kind_at-kind.ensures (sym c.fault_of-fault.ensures ∙ c.if-fault-eq3.true)
     ∙ survey_scanned f name s
 
 pub loop-number-smaller : goal.loop-number-smaller
-loop-number-smaller c = let h = rw c.in-LineAt.is at c.next_line-l.ensures in omega (arith, h.1)
+loop-number-smaller c = let h = rw c.in-Some.is at c.next_line-l.ensures in omega (arith, h.1)
 
 pub loop-number-preserved : goal.loop-number-preserved
 loop-number-preserved c =
     let s = c.args.s.now in
     let f = c.args.file in
     let l = c.loop-number in
-    let h = rw c.in-LineAt.is at c.next_line-l.ensures in
+    let h = rw c.in-Some.is at c.next_line-l.ensures in
     let e = c.fault_of-fault.ensures in (
       h.1.1.1.1.0,
       (
@@ -62,9 +62,9 @@ loop-number-preserved c =
       ),
     )
 
-pub returns-in-TextEnd : goal.returns-in-TextEnd
-returns-in-TextEnd c =
+pub returns-in-None : goal.returns-in-None
+returns-in-None c =
     let s = c.args.s.now in
     let f = c.args.file in
     let l = c.loop-number in
-    λ name. c.at_end.ensures ∙ survey_end_lem s l.a l.n 0 0 0 0 f l.any l.st _ l.invariant.1.1 (rw c.in-TextEnd.is at c.next_line-l.ensures) ∙ survey_scanned f name s
+    λ name. c.at_end.ensures ∙ survey_end_lem s l.a l.n 0 0 0 0 f l.any l.st _ l.invariant.1.1 (rw c.in-None.is at c.next_line-l.ensures) ∙ survey_scanned f name s

@@ -1,11 +1,11 @@
 -- `after` meets its contract. Assumes nothing.
 use Rattle.taking.proofs.after.Goals as goal
 
-pub returns-in-Text : goal.returns-in-Text
-returns-in-Text c = rw c.in-Text.is
+pub returns-in-Ok-Accepted : goal.returns-in-Ok-Accepted
+returns-in-Ok-Accepted c = rw c.in-Ok-Accepted.is
 
-pub returns-in-NoRegion : goal.returns-in-NoRegion
-returns-in-NoRegion c = rw c.in-NoRegion.is
+pub returns-in-Ok-NoRegion : goal.returns-in-Ok-NoRegion
+returns-in-Ok-NoRegion c = rw c.in-Ok-NoRegion.is
 
-pub returns-in-Refused : goal.returns-in-Refused
-returns-in-Refused c = rw c.in-Refused.is
+pub returns-in-Err : goal.returns-in-Err
+returns-in-Err c = rw c.in-Err.is

@@ -16,17 +16,17 @@ find_member-requires c = names-lie c.requires.1.1
 
 pub put_inside-requires : goal.put_inside-requires
 put_inside-requires c = let s = c in
-    let f = rw c.in-At.is at c.find_member.ensures in
+    let f = rw c.in-Some.is at c.find_member.ensures in
     (s.requires.0, (s.requires.1.0, (omega (arith, f.0, s.requires.1.1.few), (title_in s.requires.1.1 _ f.0, title_able s.requires.1.1 s.requires.0.below s.requires.0.fits _ f.0))))
 
-pub returns-in-At : goal.returns-in-At
-returns-in-At c = let a = c.args in
-    let f = rw c.in-At.is at c.find_member.ensures in
+pub returns-in-Some : goal.returns-in-Some
+returns-in-Some c = let a = c.args in
+    let f = rw c.in-Some.is at c.find_member.ensures in
     subst (λ (x : List ℕ). Wrote a.room x a.work.now c.put_inside.new.work c.put_inside.result)
-    (sym (placed-inside a.url.now a.resolved.now (drop a.e (source_text a.target a.contents.now a.work.now)) (titles_in a.index.now a.contents.now a.work.now a.set.now a.count a.resolved.now) (source_text (title_source (member_at a.set.now c.in-At.k)) a.contents.now a.work.now) (f.1 a.contents.now a.work.now))) c.put_inside.ensures
+    (sym (placed-inside a.url.now a.resolved.now (drop a.e (source_text a.target a.contents.now a.work.now)) (titles_in a.index.now a.contents.now a.work.now a.set.now a.count a.resolved.now) (source_text (title_source (member_at a.set.now c.in-Some.k)) a.contents.now a.work.now) (f.1 a.contents.now a.work.now))) c.put_inside.ensures
 
-pub returns-in-Nothing : goal.returns-in-Nothing
-returns-in-Nothing c = let a = c.args in
-    let f = rw c.in-Nothing.is at c.find_member.ensures in
+pub returns-in-None : goal.returns-in-None
+returns-in-None c = let a = c.args in
+    let f = rw c.in-None.is at c.find_member.ensures in
     subst (λ (x : List ℕ). Wrote a.room x a.work.now c.put_outside.new.work c.put_outside.result)
     (sym (placed-outside a.url.now a.resolved.now (drop a.e (source_text a.target a.contents.now a.work.now)) (titles_in a.index.now a.contents.now a.work.now a.set.now a.count a.resolved.now) (f a.contents.now a.work.now))) c.put_outside.ensures

@@ -15,21 +15,21 @@ pub resolve_in-requires : goal.resolve_in-requires
 resolve_in-requires c = let a = c.args in path_able c.requires.0 a.e c.requires.1.0 c.part_of-path.ensures a.dir.now (replicate 256 0) (omega arith)
 
 pub slice_bounds-put_named-count : goal.slice_bounds-put_named-count
-slice_bounds-put_named-count c = let f = rw c.in-From.is at c.resolve_in.ensures in omega (arith, f.0, c.resolve_in.auto)
+slice_bounds-put_named-count c = let f = rw c.in-Some.is at c.resolve_in.ensures in omega (arith, f.0, c.resolve_in.auto)
 
 pub slice_bounds-put_named-start : goal.slice_bounds-put_named-start
-slice_bounds-put_named-start c = let f = rw c.in-From.is at c.resolve_in.ensures in omega (arith, f.0, c.resolve_in.auto)
+slice_bounds-put_named-start c = let f = rw c.in-Some.is at c.resolve_in.ensures in omega (arith, f.0, c.resolve_in.auto)
 
-pub returns-in-From : goal.returns-in-From
-returns-in-From c = let a = c.args in
-    let f = rw c.in-From.is at c.resolve_in.ensures in
+pub returns-in-Some : goal.returns-in-Some
+returns-in-Some c = let a = c.args in
+    let f = rw c.in-Some.is at c.resolve_in.ensures in
     let z : length c.resolve_in.new.out ≡ 256 = omega (arith, c.resolve_in.auto) in
     subst (λ (x : List ℕ). Wrote a.room (placed a.url.now x (drop a.e (source_text a.target a.contents.now a.work.now)) ((titles_in a.index.now a.contents.now a.work.now a.set.now a.count) x)) a.work.now c.put_named.new.work c.put_named.result)
     (path-here c.requires.0 a.e c.requires.1.0 c.part_of-path.ensures a.dir.now c.resolve_in.new.out z _ f) c.put_named.ensures
 
-pub returns-in-Long : goal.returns-in-Long
-returns-in-Long c = let a = c.args in
-    let f = rw c.in-Long.is at c.resolve_in.ensures in
+pub returns-in-None : goal.returns-in-None
+returns-in-None c = let a = c.args in
+    let f = rw c.in-None.is at c.resolve_in.ensures in
     let z : length c.resolve_in.new.out ≡ 256 = omega (arith, c.resolve_in.auto) in
     let n = path-long c.requires.0 a.e c.requires.1.0 c.part_of-path.ensures a.dir.now c.resolve_in.new.out z f in
     subst (λ (x : List ℕ). Wrote a.room x a.work.now c.put_far.new.work c.put_far.result)

@@ -15,18 +15,18 @@ pub returns-then-line-ne0 : goal.returns-then-line-ne0
 returns-then-line-ne0 c =
     let s = c.args in
     let i = c.check_index-head.ensures in
-    record { value = head_host s.index.now s.contents.now s.text.now s.name.now i.value c.in-Records.is c.wide_line-line.ensures c.if-line-ne0.true; head_read = tt }
+    record { value = head_host s.index.now s.contents.now s.text.now s.name.now i.value c.in-Ok.is c.wide_line-line.ensures c.if-line-ne0.true; head_read = tt }
 
 pub wide_place-place-requires : goal.wide_place-place-requires
 wide_place-place-requires c =
-    let p = rw c.in-Records.is at c.check_index-head.ensures.head_read in
+    let p = rw c.in-Ok.is at c.check_index-head.ensures.head_read in
     (omega (arith, p.0, p.1.few), rw p.0 p.1.within)
 
 pub returns-then-place-ne0 : goal.returns-then-place-ne0
 returns-then-place-ne0 c =
     let s = c.args in
     let i = c.check_index-head.ensures in
-    let g = c.in-Records.is in
+    let g = c.in-Ok.is in
     let p = rw g at i.head_read in
     let w = c.wide_place-place.ensures s.index.now in
     record { value = head_files s.index.now s.contents.now s.text.now s.name.now i.value g c.wide_line-line.ensures c.if-line-ne0.false (rows_same p.1.told p.0) w c.if-place-ne0.true; head_read = tt }
@@ -35,7 +35,7 @@ pub returns-then-not-is_name : goal.returns-then-not-is_name
 returns-then-not-is_name c =
     let s = c.args in
     let i = c.check_index-head.ensures in
-    let g = c.in-Records.is in
+    let g = c.in-Ok.is in
     let p = rw g at i.head_read in
     let w = c.wide_place-place.ensures s.index.now in
     let l = c.wide_line-line.ensures in
@@ -46,7 +46,7 @@ pub returns : goal.returns
 returns c =
     let s = c.args in
     let i = c.check_index-head.ensures in
-    let g = c.in-Records.is in
+    let g = c.in-Ok.is in
     let p = rw g at i.head_read in
     let w = c.wide_place-place.ensures s.index.now in
     let l = c.wide_line-line.ensures in

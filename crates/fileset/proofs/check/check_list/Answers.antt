@@ -15,7 +15,7 @@ returns-in_default c = let s = c.args in let z = s.sizes in
 pub check_sizes-sized-requires : goal.check_sizes-sized-requires
 check_sizes-sized-requires c =
     let l = c.args.list.now in
-    let q = lines-some l (sym c.in-Lines.is ∙ c.list_lines.ensures) in
+    let q = lines-some l (sym c.in-Some.is ∙ c.list_lines.ensures) in
     (omega arith, omega (arith, list_short l q.0, q.1))
 
 pub returns-in_default-sized : goal.returns-in_default-sized
@@ -23,7 +23,7 @@ returns-in_default-sized c =
     let s = c.args in
     let z = s.sizes in
     let l = s.list.now in
-    let q = lines-some l (sym c.in-Lines.is ∙ c.list_lines.ensures) in
+    let q = lines-some l (sym c.in-Some.is ∙ c.list_lines.ensures) in
     let rs = records_in s.index.now s.rows.now 0 s.count in
     let n = sym (records-length s.index.now s.rows.now 0 s.count) in
     record { value = list_sizes rs l z.limit z.output z.work q.0 n q.1 c.check_sizes-sized.ensures c.in_default-sized.is; listed = rw c.in_default-sized.is tt }
@@ -31,7 +31,7 @@ returns-in_default-sized c =
 pub read-line-requires : goal.read-line-requires
 read-line-requires c =
     let l = c.args.list.now in
-    let q = lines-some l (sym c.in-Lines.is ∙ c.list_lines.ensures) in
+    let q = lines-some l (sym c.in-Some.is ∙ c.list_lines.ensures) in
     (omega arith, (c.requires.1, list_short l q.0))
 
 pub returns-then-line-ne0 : goal.returns-then-line-ne0
@@ -39,17 +39,17 @@ returns-then-line-ne0 c =
     let s = c.args in
     let z = s.sizes in
     let l = s.list.now in
-    let q = lines-some l (sym c.in-Lines.is ∙ c.list_lines.ensures) in
+    let q = lines-some l (sym c.in-Some.is ∙ c.list_lines.ensures) in
     let rs = records_in s.index.now s.rows.now 0 s.count in
     let n = sym (records-length s.index.now s.rows.now 0 s.count) in
-    record { value = list_absent rs l z.limit z.output z.work q.0 n q.1 c.check_sizes-sized.ensures c.in-Passed.is c.read-line.ensures.value c.if-line-ne0.true; listed = tt }
+    record { value = list_absent rs l z.limit z.output z.work q.0 n q.1 c.check_sizes-sized.ensures c.in-Ok.is c.read-line.ensures.value c.if-line-ne0.true; listed = tt }
 
 pub returns : goal.returns
 returns c =
     let s = c.args in
     let z = s.sizes in
     let l = s.list.now in
-    let q = lines-some l (sym c.in-Lines.is ∙ c.list_lines.ensures) in
+    let q = lines-some l (sym c.in-Some.is ∙ c.list_lines.ensures) in
     let rs = records_in s.index.now s.rows.now 0 s.count in
     let n = sym (records-length s.index.now s.rows.now 0 s.count) in
-    let r = c.read-line.ensures in record { value = list_passed rs l z.limit z.output z.work q.0 n q.1 c.check_sizes-sized.ensures c.in-Passed.is r.value c.if-line-ne0.false; listed = (list_short l q.0, r.members_after c.if-line-ne0.false) }
+    let r = c.read-line.ensures in record { value = list_passed rs l z.limit z.output z.work q.0 n q.1 c.check_sizes-sized.ensures c.in-Ok.is r.value c.if-line-ne0.false; listed = (list_short l q.0, r.members_after c.if-line-ne0.false) }

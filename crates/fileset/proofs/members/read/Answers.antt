@@ -62,9 +62,9 @@ loop-count-preserved c = let s = c.args in
     let l = c.loop-count in
     let p = c.piece-p in
     let rs = records_in s.index.now s.rows.now 0 s.count in
-    let k = c.in-At.k in
+    let k = c.in-Some.k in
     let e = names_more s.list.now l.a p.result.end p.ensures.s_value c.if-p.false in
-    let f = sym c.find.ensures ∙ c.in-At.is in
+    let f = sym c.find.ensures ∙ c.in-Some.is in
     let few = c.requires.1.1 in (
       omega (arith, before-end p.ensures.from_le_end.1.1 c.if-p.false p.ensures.from_le_end.1.0),
       (
@@ -82,10 +82,10 @@ loop-count-preserved c = let s = c.args in
 pub overflow_add-result : goal.overflow_add-result
 overflow_add-result c = omega (arith, c.requires.1.1)
 
-pub returns-in-Nothing : goal.returns-in-Nothing
-returns-in-Nothing c = let s = c.args in
+pub returns-in-None : goal.returns-in-None
+returns-in-None c = let s = c.args in
     let l = c.loop-count in
     let p = c.piece-p in
     let e = names_more s.list.now l.a p.result.end p.ensures.s_value c.if-p.false in
-    let f = sym c.find.ensures ∙ c.in-Nothing.is in
+    let f = sym c.find.ensures ∙ c.in-None.is in
     record { value = absent-here (records_in s.index.now s.rows.now 0 s.count) e (l.n + 1) f ∙ l.invariant.1.1.1.0; members_after = λ z. absurd (omega arith) }

@@ -1,5 +1,6 @@
 -- `heading::level::shallowest` meets its contract. The invariant: what was found, with the pieces from a on, gives the shallowest level of all.
 -- Assumes nothing.
+use Rattle.std.specs.Prelude.{None}
 use Prim.Native.Nat.{◌+◌}
 use mathlib.Core.Path.{sym, subst, ◌∙◌}
 use mathlib.Core.List.{[]}
@@ -10,7 +11,6 @@ use Rattle.text.specs.Lines.{pieces}
 use Rattle.text.proofs.LineLaws.{before-end}
 use Rattle.heading.specs.Walk.{walk_begin}
 use Rattle.heading.specs.Level.{IsLevel}
-use Rattle.heading.specs.declared.level.TopLevel.TheVariants.{NoHeading}
 use Rattle.heading.proofs.LevelLaws.{turn, none_left, level-lines}
 use Rattle.heading.proofs.level.shallowest.Goals as goal
 
@@ -39,7 +39,7 @@ returns-then-p c =
     sym (none_left c.shallower-found.result w.result.state)
     ∙ turn l.found l.state (part l.a p.result.end s) [] (rw c.if-p.true at p.ensures.s_value) w.ensures.0 w.ensures.1 c.shallower-found.ensures
     ∙ l.invariant.1 in
-    record { value = e; level = subst IsLevel (sym e) (level-lines NoHeading walk_begin (pieces s) tt) }
+    record { value = e; level = subst IsLevel (sym e) (level-lines None walk_begin (pieces s) tt) }
 
 -- a piece that is not the last ends before the text does
 pub overflow_add-a : goal.overflow_add-a

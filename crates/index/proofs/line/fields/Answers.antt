@@ -2,4 +2,4 @@
 use Rattle.index.proofs.line.fields.Goals as goal
 
 pub returns : goal.returns
-returns c = rw (c.in-Is.is, c.in-Is-size.is)
+returns c = rw (c.in-Some.is, c.in-Some-size.is)

@@ -31,11 +31,11 @@ find-requires c = (omega arith, named-first c.requires.1 (omega arith))
 pub overflow_add-result : goal.overflow_add-result
 overflow_add-result c = omega arith
 
-pub returns-in-At : goal.returns-in-At
-returns-in-At c =
+pub returns-in-Some : goal.returns-in-Some
+returns-in-Some c =
     let s = c.args in
     let l = c.loop-k in
-    twice_here s.index.now s.rows.now l.k s.count (omega arith) c.row_at-row.ensures c.find.ensures c.in-At.is ∙ l.invariant.1
+    twice_here s.index.now s.rows.now l.k s.count (omega arith) c.row_at-row.ensures c.find.ensures c.in-Some.is ∙ l.invariant.1
 
 pub overflow_add-k : goal.overflow_add-k
 overflow_add-k c = omega arith
@@ -47,7 +47,7 @@ pub loop-k-preserved : goal.loop-k-preserved
 loop-k-preserved c =
     let s = c.args in
     let l = c.loop-k in
-    (omega arith, twice_on s.index.now s.rows.now l.k s.count (omega arith) c.row_at-row.ensures c.find.ensures c.in-Nothing.is ∙ l.invariant.1)
+    (omega arith, twice_on s.index.now s.rows.now l.k s.count (omega arith) c.row_at-row.ensures c.find.ensures c.in-None.is ∙ l.invariant.1)
 
 pub returns : goal.returns
 returns c =

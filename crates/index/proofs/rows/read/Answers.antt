@@ -41,7 +41,7 @@ pub overflow_add-row : goal.overflow_add-row
 overflow_add-row c =
     let s = c.args.index.now in
     let p = c.piece-p in
-    omega (arith, name-end s c.loop-n.a p.result.end (sym c.read_line.ensures ∙ c.in-Fields.is) (omega arith))
+    omega (arith, name-end s c.loop-n.a p.result.end (sym c.read_line.ensures ∙ c.in-Some.is) (omega arith))
 
 pub overflow_add-n : goal.overflow_add-n
 overflow_add-n c = omega (arith, c.loop-n.invariant.short, c.loop-n.invariant.within)
@@ -57,13 +57,13 @@ loop-n-smaller c =
 pub loop-n-preserved : goal.loop-n-preserved
 loop-n-preserved c = let p = c.piece-p in
     let f = eqb-false p.result.end (length c.args.index.now) (sym p.ensures.from_le_end.1.1 ∙ c.if-p.false) in
-    let h = sym c.read_line.ensures ∙ c.in-Fields.is in
+    let h = sym c.read_line.ensures ∙ c.in-Some.is in
     read_turn c.loop-n.invariant p.result.end (rw c.if-p.false at p.ensures.s_value) h (omega arith) (omega arith) c.put_row.ensures
 
-pub overflow_add-result-in-IllFormed : goal.overflow_add-result-in-IllFormed
-overflow_add-result-in-IllFormed c = omega (arith, c.loop-n.invariant.short, c.loop-n.invariant.within)
+pub overflow_add-result-in-None : goal.overflow_add-result-in-None
+overflow_add-result-in-None c = omega (arith, c.loop-n.invariant.short, c.loop-n.invariant.within)
 
-pub returns-in-IllFormed : goal.returns-in-IllFormed
-returns-in-IllFormed c =
+pub returns-in-None : goal.returns-in-None
+returns-in-None c =
     let p = c.piece-p in
-    record { value = read_ill c.loop-n.invariant p.result.end (rw c.if-p.false at p.ensures.s_value) (sym c.read_line.ensures ∙ c.in-IllFormed.is); told = tt }
+    record { value = read_ill c.loop-n.invariant p.result.end (rw c.if-p.false at p.ensures.s_value) (sym c.read_line.ensures ∙ c.in-None.is); told = tt }

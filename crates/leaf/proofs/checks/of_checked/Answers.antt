@@ -3,5 +3,5 @@ use mathlib.Core.Path.{ap, sym, ◌∙◌}
 use Rattle.leaf.specs.Link.{check_numbers}
 use Rattle.leaf.proofs.checks.of_checked.Goals as goal
 
-pub returns-in-Refused : goal.returns-in-Refused
-returns-in-Refused c = c.numbers-in-Refused.ensures ∙ ap check_numbers (sym c.in-Refused.is)
+pub returns-in-Err : goal.returns-in-Err
+returns-in-Err c = c.numbers-in-Err.ensures ∙ ap check_numbers (sym c.in-Err.is)

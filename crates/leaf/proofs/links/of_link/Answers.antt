@@ -3,5 +3,5 @@ use mathlib.Core.Path.{ap, sym}
 use Rattle.leaf.specs.Link.{link_numbers}
 use Rattle.leaf.proofs.links.of_link.Goals as goal
 
-pub returns-in-Link : goal.returns-in-Link
-returns-in-Link c = ap link_numbers (sym c.in-Link.is)
+pub returns-in-Some : goal.returns-in-Some
+returns-in-Some c = ap link_numbers (sym c.in-Some.is)

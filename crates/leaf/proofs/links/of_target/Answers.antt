@@ -3,5 +3,5 @@ use mathlib.Core.Path.{ap, sym}
 use Rattle.leaf.specs.Link.{target_numbers}
 use Rattle.leaf.proofs.links.of_target.Goals as goal
 
-pub returns-in-Path : goal.returns-in-Path
-returns-in-Path c = ap target_numbers (sym c.in-Path.is)
+pub returns-in-Some : goal.returns-in-Some
+returns-in-Some c = ap target_numbers (sym c.in-Some.is)

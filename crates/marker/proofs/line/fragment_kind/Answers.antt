@@ -7,11 +7,11 @@ use Rattle.text.specs.Pattern.{bytes, contains}
 use Rattle.text.proofs.BytesLaws.{rest}
 use Rattle.text.proofs.PatternLaws.{find-within, contains_longer}
 use Rattle.marker.specs.Marker.{fragment_kind, OPEN, OPEN-FRAGMENT}
-use Rattle.marker.proofs.line.fragment_kind.Goals.{After-contains, In-Other}
+use Rattle.marker.proofs.line.fragment_kind.Goals.{After-contains, In-None}
 use Rattle.marker.proofs.line.fragment_kind.Goals as goal
 
 -- the first marker lies within the line
-within : (c : In-Other) → c.args.i ≤ length c.args.line.now
+within : (c : In-None) → c.args.i ≤ length c.args.line.now
 within c = omega (arith, find-within OPEN c.args.line.now c.args.i c.requires)
 
 -- the line holds a fragment marker where one stands from its first marker on
@@ -22,22 +22,22 @@ sought c =
 
 pub returns-then-inside : goal.returns-then-inside
 unfolding fragment_kind
-returns-then-inside c = rw (c.in-Path.is, c.if-inside.true)
+returns-then-inside c = rw (c.in-Some.is, c.if-inside.true)
 
 pub slice_bounds-contains-count : goal.slice_bounds-contains-count
-slice_bounds-contains-count c = within (goal.at.slice_bounds-contains-count c).In-Other
+slice_bounds-contains-count c = within (goal.at.slice_bounds-contains-count c).In-None
 
 pub slice_bounds-contains-start : goal.slice_bounds-contains-start
-slice_bounds-contains-start c = within (goal.at.slice_bounds-contains-start c).In-Other
+slice_bounds-contains-start c = within (goal.at.slice_bounds-contains-start c).In-None
 
 pub returns-then-contains : goal.returns-then-contains
 unfolding fragment_kind
-returns-then-contains c = rw (c.in-Other.is, sought (goal.at.returns-then-contains c).After-contains ∙ c.if-contains.true)
+returns-then-contains c = rw (c.in-None.is, sought (goal.at.returns-then-contains c).After-contains ∙ c.if-contains.true)
 
 pub returns-else-inside : goal.returns-else-inside
 unfolding fragment_kind
-returns-else-inside c = rw (c.in-Path.is, c.if-inside.false)
+returns-else-inside c = rw (c.in-Some.is, c.if-inside.false)
 
 pub returns-else-contains : goal.returns-else-contains
 unfolding fragment_kind
-returns-else-contains c = rw (c.in-Other.is, sought (goal.at.returns-else-contains c).After-contains ∙ c.if-contains.false)
+returns-else-contains c = rw (c.in-None.is, sought (goal.at.returns-else-contains c).After-contains ∙ c.if-contains.false)

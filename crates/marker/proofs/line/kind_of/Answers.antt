@@ -8,12 +8,12 @@ unfolding kind_of
 returns-then-is_fence c = rw (sym c.is_fence.ensures ∙ c.if-is_fence.true)
 
 pub marked_kind-requires : goal.marked_kind-requires
-marked_kind-requires c = (c.requires, sym c.find-f.ensures ∙ c.in-At.is)
+marked_kind-requires c = (c.requires, sym c.find-f.ensures ∙ c.in-Some.is)
 
-pub returns-in-At : goal.returns-in-At
+pub returns-in-Some : goal.returns-in-Some
 unfolding kind_of
-returns-in-At c = rw (sym c.is_fence.ensures ∙ c.if-is_fence.false) c.marked_kind.ensures
+returns-in-Some c = rw (sym c.is_fence.ensures ∙ c.if-is_fence.false) c.marked_kind.ensures
 
-pub returns-in-Nothing : goal.returns-in-Nothing
+pub returns-in-None : goal.returns-in-None
 unfolding kind_of marked_kind
-returns-in-Nothing c = rw (sym c.is_fence.ensures ∙ c.if-is_fence.false, sym c.find-f.ensures ∙ c.in-Nothing.is)
+returns-in-None c = rw (sym c.is_fence.ensures ∙ c.if-is_fence.false, sym c.find-f.ensures ∙ c.in-None.is)

@@ -6,35 +6,35 @@ use lib.ListN.{length}
 use Rattle.text.proofs.BytesLaws.{rest, rest-length}
 use Rattle.text.proofs.PatternLaws.{find-within}
 use Rattle.marker.specs.Marker.{next_mark, first_of, OPEN}
-use Rattle.marker.proofs.span.next_mark.Goals.{In-At}
+use Rattle.marker.proofs.span.next_mark.Goals.{In-Some}
 use Rattle.marker.proofs.span.next_mark.Goals as goal
 
 -- the marker that is found lies within r
-found : (c : In-At) → c.in-At.i + 5 ≤ length c.args.r.now
-found c = find-within OPEN _ _ (sym c.find-f.ensures ∙ c.in-At.is)
+found : (c : In-Some) → c.in-Some.i + 5 ≤ length c.args.r.now
+found c = find-within OPEN _ _ (sym c.find-f.ensures ∙ c.in-Some.is)
 
 pub overflow_add-a : goal.overflow_add-a
-overflow_add-a c = omega (arith, found (goal.at.overflow_add-a c).In-At)
+overflow_add-a c = omega (arith, found (goal.at.overflow_add-a c).In-Some)
 
 pub slice_bounds-read_mark-count : goal.slice_bounds-read_mark-count
-slice_bounds-read_mark-count c = omega (arith, found (goal.at.slice_bounds-read_mark-count c).In-At)
+slice_bounds-read_mark-count c = omega (arith, found (goal.at.slice_bounds-read_mark-count c).In-Some)
 
 pub slice_bounds-read_mark-start : goal.slice_bounds-read_mark-start
-slice_bounds-read_mark-start c = omega (arith, found (goal.at.slice_bounds-read_mark-start c).In-At)
+slice_bounds-read_mark-start c = omega (arith, found (goal.at.slice_bounds-read_mark-start c).In-Some)
 
 pub overflow_add-o : goal.overflow_add-o
-overflow_add-o c = omega (arith, found (goal.at.overflow_add-o c).In-At)
+overflow_add-o c = omega (arith, found (goal.at.overflow_add-o c).In-Some)
 
-pub overflow_add-o-in-At : goal.overflow_add-o-in-At
-overflow_add-o-in-At c = omega (arith, found (goal.at.overflow_add-o-in-At c).In-At)
+pub overflow_add-o-in-Some : goal.overflow_add-o-in-Some
+overflow_add-o-in-Some c = omega (arith, found (goal.at.overflow_add-o-in-Some c).In-Some)
 
 pub read_mark-requires : goal.read_mark-requires
-read_mark-requires c = omega (arith, found (goal.at.read_mark-requires c).In-At, rest-length c.args.r.now (c.in-At.i + 5))
+read_mark-requires c = omega (arith, found (goal.at.read_mark-requires c).In-Some, rest-length c.args.r.now (c.in-Some.i + 5))
 
-pub returns-in-At : goal.returns-in-At
+pub returns-in-Some : goal.returns-in-Some
 unfolding next_mark first_of
-returns-in-At c = rw (sym c.find-f.ensures ∙ c.in-At.is) (rw rest at c.read_mark.ensures)
+returns-in-Some c = rw (sym c.find-f.ensures ∙ c.in-Some.is) (rw rest at c.read_mark.ensures)
 
-pub returns-in-Nothing : goal.returns-in-Nothing
+pub returns-in-None : goal.returns-in-None
 unfolding next_mark first_of
-returns-in-Nothing c = rw (sym c.find-f.ensures ∙ c.in-Nothing.is)
+returns-in-None c = rw (sym c.find-f.ensures ∙ c.in-None.is)

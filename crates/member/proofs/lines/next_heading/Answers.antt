@@ -17,25 +17,25 @@ returns-in_default c = passed-end (passed-still c.loop-a.invariant c.pass-passed
 
 pub overflow_add-result : goal.overflow_add-result
 overflow_add-result c =
-    let l = rw c.in-Line.is at c.next_line.ensures in
+    let l = rw c.in-Some.is at c.next_line.ensures in
     omega (arith, heading_in (rw c.in-Heading.is at l))
 
 pub overflow_add-result-in-Heading : goal.overflow_add-result-in-Heading
 overflow_add-result-in-Heading c =
-    let l = rw c.in-Line.is at c.next_line.ensures in
+    let l = rw c.in-Some.is at c.next_line.ensures in
     omega (arith, heading_in (rw c.in-Heading.is at l))
 
 pub returns-in-Heading : goal.returns-in-Heading
 returns-in-Heading c =
-    let l = rw c.in-Line.is at c.next_line.ensures in
+    let l = rw c.in-Some.is at c.next_line.ensures in
     passed-heading (passed-still c.loop-a.invariant c.pass-passed.ensures) (rw c.in-Heading.is at l)
 
 pub loop-a-smaller : goal.loop-a-smaller
 loop-a-smaller c =
-    let l = rw c.in-Line.is at c.next_line.ensures in
+    let l = rw c.in-Some.is at c.next_line.ensures in
     omega (arith, line-next (passed-still c.loop-a.invariant c.pass-passed.ensures).cursor l, (passed-still (passed_none c.loop-a.invariant.cursor) c.pass-passed.ensures).order)
 
 pub loop-a-preserved : goal.loop-a-preserved
 loop-a-preserved c =
-    let l = rw c.in-Line.is at c.next_line.ensures in
-    passed-plain (passed-still c.loop-a.invariant c.pass-passed.ensures) l (not_heading c.in-Line.kind c.in_default-kind.not-Heading)
+    let l = rw c.in-Some.is at c.next_line.ensures in
+    passed-plain (passed-still c.loop-a.invariant c.pass-passed.ensures) l (not_heading c.in-Some.kind c.in_default-kind.not-Heading)

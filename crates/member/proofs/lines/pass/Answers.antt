@@ -16,16 +16,16 @@ pub returns-in_default : goal.returns-in_default
 returns-in_default c = c.loop-at.invariant.passed
 
 pub overflow_add-at : goal.overflow_add-at
-overflow_add-at c = let h = rw c.in-To.is at c.still_line.ensures in omega (arith, h.within)
+overflow_add-at c = let h = rw c.in-Some.is at c.still_line.ensures in omega (arith, h.within)
 
 pub overflow_add-line : goal.overflow_add-line
 overflow_add-line c = omega (arith, c.loop-at.invariant.order)
 
 pub loop-at-smaller : goal.loop-at-smaller
-loop-at-smaller c = let h = rw c.in-To.is at c.still_line.ensures in omega (arith, h.ends)
+loop-at-smaller c = let h = rw c.in-Some.is at c.still_line.ensures in omega (arith, h.ends)
 
 pub loop-at-preserved : goal.loop-at-preserved
-loop-at-preserved c = passing_more c.if-state.false c.loop-at.invariant (rw c.in-To.is at c.still_line.ensures) c.last_end-last.ensures
+loop-at-preserved c = passing_more c.if-state.false c.loop-at.invariant (rw c.in-Some.is at c.still_line.ensures) c.last_end-last.ensures
 
 pub returns : goal.returns
 returns c = c.loop-at.invariant.passed

@@ -23,11 +23,11 @@ shifted-requires c = let s = c in (omega (arith, rw c.in-Heading.is at s.require
 pub overflow_add-result : goal.overflow_add-result
 overflow_add-result c = omega (arith, rw c.in-Heading.is at c.requires.0)
 
-pub overflow_add-result-in-To : goal.overflow_add-result-in-To
-overflow_add-result-in-To c = omega (arith, rw c.in-Heading.is at c.requires.0)
+pub overflow_add-result-in-Some : goal.overflow_add-result-in-Some
+overflow_add-result-in-Some c = omega (arith, rw c.in-Heading.is at c.requires.0)
 
-pub returns-in-To : goal.returns-in-To
-returns-in-To c = let s = c in rw (c.in-Heading.is, ← rw (shift_kept s.args.shift s.requires.1, c.in-To.is) at c.shifted.ensures)
+pub returns-in-Some : goal.returns-in-Some
+returns-in-Some c = let s = c in rw (c.in-Heading.is, ← rw (shift_kept s.args.shift s.requires.1, c.in-Some.is) at c.shifted.ensures)
 
-pub returns-in-Past : goal.returns-in-Past
-returns-in-Past c = let s = c in rw (c.in-Heading.is, ← rw (shift_kept s.args.shift s.requires.1, c.in-Past.is) at c.shifted.ensures) c.same_text-in-Past.ensures
+pub returns-in-None : goal.returns-in-None
+returns-in-None c = let s = c in rw (c.in-Heading.is, ← rw (shift_kept s.args.shift s.requires.1, c.in-None.is) at c.shifted.ensures) c.same_text-in-None.ensures

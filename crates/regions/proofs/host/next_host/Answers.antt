@@ -7,24 +7,24 @@ pub next_own-r-requires : goal.next_own-r-requires
 next_own-r-requires c = c.requires.line
 
 pub top_of-top-requires : goal.top_of-top-requires
-top_of-top-requires c = can_top c.requires (rw c.in-Before.is at c.next_own-r.ensures)
+top_of-top-requires c = can_top c.requires (rw c.in-Some.is at c.next_own-r.ensures)
 
 pub opens_at-requires : goal.opens_at-requires
 opens_at-requires c =
-    let b = rw c.in-Before.is at c.next_own-r.ensures in
+    let b = rw c.in-Some.is at c.next_own-r.ensures in
     let p = placed c.requires b in
     (omega (arith, p.opens.within), (v_level c.requires b, c.top_of-top.ensures.level))
 
 pub behind-requires : goal.behind-requires
 behind-requires c =
-    let p = placed c.requires (rw c.in-Before.is at c.next_own-r.ensures) in
+    let p = placed c.requires (rw c.in-Some.is at c.next_own-r.ensures) in
     (omega (arith, p.places), omega (arith, p.lines))
 
-pub returns-in-Before : goal.returns-in-Before
-returns-in-Before c =
-    let b = rw c.in-Before.is at c.next_own-r.ensures in
+pub returns-in-Some : goal.returns-in-Some
+returns-in-Some c =
+    let b = rw c.in-Some.is at c.next_own-r.ensures in
     let o = c.opens_at.ensures in
     whole-host c.requires b c.top_of-top.ensures o.0 c.behind.ensures o.1.0 o.1.1
 
-pub returns-in-NoMore : goal.returns-in-NoMore
-returns-in-NoMore c = last-host c.requires (rw c.in-NoMore.is at c.next_own-r.ensures)
+pub returns-in-None : goal.returns-in-None
+returns-in-None c = last-host c.requires (rw c.in-None.is at c.next_own-r.ensures)

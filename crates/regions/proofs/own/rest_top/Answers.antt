@@ -13,12 +13,12 @@ next_own-r-requires c = c.loop-d.invariant.0
 
 pub loop-d-smaller : goal.loop-d-smaller
 loop-d-smaller c =
-    let n = own-next c.loop-d.invariant.0 (rw c.in-Before.is at c.next_own-r.ensures) in
+    let n = own-next c.loop-d.invariant.0 (rw c.in-Some.is at c.next_own-r.ensures) in
     omega (arith, n.0.within, n.1.0)
 
 pub loop-d-preserved : goal.loop-d-preserved
 loop-d-preserved c =
-    let n = own-next c.loop-d.invariant.0 (rw c.in-Before.is at c.next_own-r.ensures) in
+    let n = own-next c.loop-d.invariant.0 (rw c.in-Some.is at c.next_own-r.ensures) in
     (n.0, n.1.1 ∙ c.loop-d.invariant.1)
 
 pub slice_bounds-own_after-count : goal.slice_bounds-own_after-count
@@ -30,7 +30,7 @@ slice_bounds-own_after-start c = omega (arith, c.loop-d.invariant.0.within)
 pub slice_bounds-own_after-end : goal.slice_bounds-own_after-end
 slice_bounds-own_after-end c = omega (arith, c.loop-d.invariant.0.within)
 
-pub returns-in-NoMore : goal.returns-in-NoMore
-returns-in-NoMore c =
-    let e = rw c.in-NoMore.is at c.next_own-r.ensures in
+pub returns-in-None : goal.returns-in-None
+returns-in-None c =
+    let e = rw c.in-None.is at c.next_own-r.ensures in
     ap (λ (w : Own). w.top) (c.own_after-all.ensures ∙ own-end c.loop-d.own c.loop-d.invariant.0 e ∙ c.loop-d.invariant.1)

@@ -12,16 +12,16 @@ pub next_line-l-requires : goal.next_line-l-requires
 next_line-l-requires c = (c.loop-number.invariant.1.0, c.loop-number.invariant.1.1.0)
 
 pub slice_bounds-kind_at-count : goal.slice_bounds-kind_at-count
-slice_bounds-kind_at-count c = (rw c.in-LineAt.is at c.next_line-l.ensures).1.0
+slice_bounds-kind_at-count c = (rw c.in-Some.is at c.next_line-l.ensures).1.0
 
 pub slice_bounds-kind_at-start : goal.slice_bounds-kind_at-start
-slice_bounds-kind_at-start c = omega (arith, (rw c.in-LineAt.is at c.next_line-l.ensures).1)
+slice_bounds-kind_at-start c = omega (arith, (rw c.in-Some.is at c.next_line-l.ensures).1)
 
 pub slice_bounds-kind_at-end : goal.slice_bounds-kind_at-end
-slice_bounds-kind_at-end c = omega (arith, (rw c.in-LineAt.is at c.next_line-l.ensures).1)
+slice_bounds-kind_at-end c = omega (arith, (rw c.in-Some.is at c.next_line-l.ensures).1)
 
 pub kind_at-kind-requires : goal.kind_at-kind-requires
-kind_at-kind-requires c = omega (arith, (rw c.in-LineAt.is at c.next_line-l.ensures).1, part_length c.args.s.now c.in-LineAt.start c.in-LineAt.end)
+kind_at-kind-requires c = omega (arith, (rw c.in-Some.is at c.next_line-l.ensures).1, part_length c.args.s.now c.in-Some.start c.in-Some.end)
 
 pub returns-in-Closes : goal.returns-in-Closes
 returns-in-Closes c =
@@ -29,17 +29,17 @@ returns-in-Closes c =
     let l = c.loop-number in
     let nl = c.next_line-l in
     let ka = c.kind_at-kind in
-    rw c.closed_at.ensures (region_found a.s.now l.a l.n _ _ _ _ l.st _ l.invariant.1.1.1 a.from refl l.invariant.0 (rw c.in-LineAt.is at nl.ensures) (sym c.in-Closes.is ∙ ka.ensures))
+    rw c.closed_at.ensures (region_found a.s.now l.a l.n _ _ _ _ l.st _ l.invariant.1.1.1 a.from refl l.invariant.0 (rw c.in-Some.is at nl.ensures) (sym c.in-Closes.is ∙ ka.ensures))
 
 pub loop-number-smaller : goal.loop-number-smaller
-loop-number-smaller c = omega (arith, (rw c.in-LineAt.is at c.next_line-l.ensures).1)
+loop-number-smaller c = omega (arith, (rw c.in-Some.is at c.next_line-l.ensures).1)
 
 pub loop-number-preserved : goal.loop-number-preserved
 loop-number-preserved c =
     let a = c.args in
     let l = c.loop-number in
     let nl = c.next_line-l in
-    let h = (rw c.in-LineAt.is at nl.ensures) in (
+    let h = (rw c.in-Some.is at nl.ensures) in (
       omega (arith, h.1),
       (
         h.1.1.1.1.0,
@@ -50,5 +50,5 @@ loop-number-preserved c =
       ),
     )
 
-pub returns-in-TextEnd : goal.returns-in-TextEnd
-returns-in-TextEnd c = region_none c.args.s.now c.loop-number.a c.loop-number.n 0 0 0 0 c.loop-number.st _ c.loop-number.invariant.1.1.1 (rw c.in-TextEnd.is at c.next_line-l.ensures)
+pub returns-in-None : goal.returns-in-None
+returns-in-None c = region_none c.args.s.now c.loop-number.a c.loop-number.n 0 0 0 0 c.loop-number.st _ c.loop-number.invariant.1.1.1 (rw c.in-None.is at c.next_line-l.ensures)

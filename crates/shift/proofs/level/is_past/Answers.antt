@@ -4,8 +4,8 @@ use mathlib.Core.Path.{sym, ap, ◌∙◌}
 use Rattle.heading.specs.Level.{is_past}
 use Rattle.shift.proofs.level.is_past.Goals as goal
 
-pub returns-in-To : goal.returns-in-To
-returns-in-To c = let k = shift_kept c.args.shift c.requires.1 in ap is_past (sym c.in-To.is ∙ (rw k at c.shifted.ensures))
+pub returns-in-Some : goal.returns-in-Some
+returns-in-Some c = let k = shift_kept c.args.shift c.requires.1 in ap is_past (sym c.in-Some.is ∙ (rw k at c.shifted.ensures))
 
-pub returns-in-Past : goal.returns-in-Past
-returns-in-Past c = let k = shift_kept c.args.shift c.requires.1 in ap is_past (sym c.in-Past.is ∙ (rw k at c.shifted.ensures))
+pub returns-in-None : goal.returns-in-None
+returns-in-None c = let k = shift_kept c.args.shift c.requires.1 in ap is_past (sym c.in-None.is ∙ (rw k at c.shifted.ensures))

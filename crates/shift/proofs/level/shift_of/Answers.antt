@@ -12,7 +12,7 @@ past_line-requires c =
     let l = c.levels_of-found.ensures in
     let x = c.shift_to-shift in
     let k = shift_kept x.result x.ensures.1 in
-    rw k (x.ensures.1, shift_past s t l x.result x.ensures.0 c.in-Level.field-0 c.in-Level.is (omega arith) (rw k at c.is_past.ensures) ∙ c.if-is_past.true)
+    rw k (x.ensures.1, shift_past s t l x.result x.ensures.0 c.in-Some.field-0 c.in-Some.is (omega arith) (rw k at c.is_past.ensures) ∙ c.if-is_past.true)
 
 pub returns-then-is_past : goal.returns-then-is_past
 returns-then-is_past c =
@@ -22,7 +22,7 @@ returns-then-is_past c =
     let x = c.shift_to-shift in
     let k = shift_kept x.result x.ensures.1 in
     shift_past_at s t l x.result x.ensures.0
-    (shift_past s t l x.result x.ensures.0 c.in-Level.field-0 c.in-Level.is (omega arith) (rw k at c.is_past.ensures) ∙ c.if-is_past.true) (rw k at c.past_line.ensures)
+    (shift_past s t l x.result x.ensures.0 c.in-Some.field-0 c.in-Some.is (omega arith) (rw k at c.is_past.ensures) ∙ c.if-is_past.true) (rw k at c.past_line.ensures)
 
 pub returns-else-is_past : goal.returns-else-is_past
 returns-else-is_past c =
@@ -32,12 +32,12 @@ returns-else-is_past c =
     let x = c.shift_to-shift in
     let k = shift_kept x.result x.ensures.1 in
     rw k (shift_by s t l x.result x.ensures.0 x.ensures.1
-    (shift_past s t l x.result x.ensures.0 c.in-Level.field-0 c.in-Level.is (omega arith) (rw k at c.is_past.ensures) ∙ c.if-is_past.false))
+    (shift_past s t l x.result x.ensures.0 c.in-Some.field-0 c.in-Some.is (omega arith) (rw k at c.is_past.ensures) ∙ c.if-is_past.false))
 
-pub returns-in-NoHeading : goal.returns-in-NoHeading
-returns-in-NoHeading c =
+pub returns-in-None : goal.returns-in-None
+returns-in-None c =
     let s = c.args.s.now in
     let t = c.args.target in
     let l = c.levels_of-found.ensures in
     let x = c.shift_to-shift in
-    rw (shift_kept x.result x.ensures.1) (shift_by s t l x.result x.ensures.0 x.ensures.1 (shift_none s t l x.result x.ensures.0 c.in-NoHeading.is))
+    rw (shift_kept x.result x.ensures.1) (shift_by s t l x.result x.ensures.0 x.ensures.1 (shift_none s t l x.result x.ensures.0 c.in-None.is))

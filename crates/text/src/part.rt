@@ -1,0 +1,8 @@
+// A part of a text.
+
+// From a place up to, not including, another.
+#[derive(Clone, Copy)]
+pub struct Part {
+    pub start: usize,
+    pub end: usize,
+}
