@@ -77,9 +77,7 @@ fn place_of(refusal: Refusal) -> Place
             line,
         },
         Refusal::TooManyRecords => Place { file: 0, line: 65 },
-        Refusal::NameForm => Place { file: 0, line: 0 },
-        Refusal::ListForm => Place { file: 0, line: 0 },
-        Refusal::Sizes => Place { file: 0, line: 0 },
+        Refusal::NameForm | Refusal::ListForm | Refusal::Sizes => Place { file: 0, line: 0 },
         Refusal::NoTitle(file) => Place { file, line: 0 },
         Refusal::WideByte(place)
         | Refusal::NestedRegion(place)
