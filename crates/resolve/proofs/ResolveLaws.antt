@@ -6,7 +6,7 @@ use mathlib.Core.Path.{◌≡◌, refl, sym, ap, subst, ◌∙◌}
 use mathlib.Core.Bool.{Bool, true, false, cond}
 use mathlib.Core.List.{List, [], ◌∷◌, ◌++◌, append_assoc, append-nil}
 use lib.ListN.{length, take, drop, length-append, length-take}
-use lib.Seq.{sets, length-sets, take-take, drop-drop, drop-length}
+use lib.Seq.{sets, length-sets, take-take, drop-length}
 use lib.Dec.{eqb}
 use borrow.Author.Tests.{eq-eqb, ne_eqb}
 use Rattle.path.specs.declared.PathPart.{PathPart}
@@ -14,16 +14,12 @@ use Rattle.text.specs.Bytes.{part}
 use Rattle.text.proofs.BytesLaws.{drop_take, part_full}
 use Rattle.buffer.proofs.BufferLaws.{sets_before, drop_sets, drop_past}
 use Rattle.path.specs.Path.{SLASH, resolve}
-use Rattle.path.specs.Backward.{put, weight, holder, piece, from_end, Within, LastKept, LastPart, Bounded}
+use Rattle.path.specs.Backward.{put, weight, holder, piece, from_end, LastKept, LastPart, Bounded}
 use Rattle.path.specs.declared.PathCursor.{PathCursor}
 use Rattle.path.proofs.PathLaws.{Reached, reached_start, reached_on, reached_root, reached_fits}
 use Rattle.resolve.specs.Joined.{lengthened, closed, Closed}
 
 -- how long a text is with a part before it
-pub lengthened-some : (n k : ℕ) → (n ≡ 0 → ⊥) → (n + 1) + k ≡ lengthened n k
-lengthened-some zero k h = absurd (h refl)
-lengthened-some (suc n) k h = omega arith
-
 lengthened-put : (p t : List ℕ) → lengthened (length t) (length p) ≡ length (put p t)
 lengthened-put p [] = refl
 lengthened-put p (x ∷ t) = omega (arith, length-append p (SLASH ∷ x ∷ t))
@@ -37,17 +33,9 @@ lengthened_on : (n k v w : ℕ) → v + suc k ≤ w → lengthened (lengthened n
 lengthened_on zero k v w h = omega (arith, lengthened_le k v)
 lengthened_on (suc n) k v w h = omega (arith, lengthened_le (suc n + suc k) v)
 
-lengthened-fits : (n k w m : ℕ) → suc k ≤ w → lengthened n w ≤ m + 2 → k ≤ m → n + k ≤ m
-lengthened-fits zero k w m h l f = omega arith
-lengthened-fits (suc n) k w m h l f = omega arith
-
 holder-length : (dir path : List ℕ) (i : Bool) → length (holder dir path i) ≤ length path + length dir
 holder-length dir path true = omega arith
 holder-length dir path false = omega arith
-
-holder-most : (dir path : List ℕ) (i : Bool) (n : ℕ) → length dir ≤ n → length path ≤ n → length (holder dir path i) ≤ n
-holder-most dir path true n h k = h
-holder-most dir path false n h k = k
 
 -- a cursor has passed the parts that make up a text of n bytes
 pub record Measured (dir path : List ℕ) (n : ℕ) (c : PathCursor) : Type 0 where
@@ -60,11 +48,6 @@ pub measured_start : (dir path : List ℕ) → Measured dir path 0 (from_end pat
 measured_start dir path = record { made = []; size = refl; reached = reached_start dir path; bound = omega arith }
 
 module _ {dir path : List ℕ} {n : ℕ} {c : PathCursor} {b : PathCursor} {e : ℕ} (m : Measured dir path n c) (h : LastKept dir path c b e) where
-  pub measured_fits : n + (e - b.left) ≤ length path + length dir
-  measured_fits =
-      lengthened-fits n (e - b.left) (weight dir c) (length path + length dir) (omega (arith, h.less)) m.bound
-      (omega (arith, h.bounded.1, holder-length dir path b.inside))
-
   pub measured_on : Measured dir path (lengthened n (e - b.left)) b
   measured_on =
       let k : e - b.left ≡ length (piece dir path b e) = sym (part_full (holder dir path b.inside) b.left e h.bounded.1) in
@@ -76,11 +59,6 @@ module _ {dir path : List ℕ} {n : ℕ} {c : PathCursor} {b : PathCursor} {e : 
       }
 
 -- a part of a part
-pub part-behind : (l : List ℕ) (n a e : ℕ) → part a e (drop n l) ≡ part (n + a) (n + e) l
-part-behind l n a e =
-    let k : e - a ≡ (n + e) - (n + a) = omega arith in
-    ap (take (e - a)) (drop-drop a n l) ∙ ap (λ (m : ℕ). take m (drop (n + a) l)) k
-
 part-take : (l : List ℕ) (n a e : ℕ) → e ≤ n → part a e (take n l) ≡ part a e l
 part-take l n a e h = sym (drop_take (take n l) a e) ∙ ap (drop a) (take-take e n l h) ∙ drop_take l a e
 
@@ -159,9 +137,6 @@ module _ {dir path : List ℕ} {end : ℕ} {out₀ out : List ℕ} {at : ℕ} {c
     pub written-fits : length (resolve dir path) ≤ end → length (closed at end (piece dir path b e)) ≤ at
     written-fits f = omega (arith, w.place, now-length, reached_fits w.reached h)
 
-    pub written_small : (n : ℕ) → length dir ≤ n → length path ≤ n → e - b.left ≤ n
-    written_small n k l = omega (arith, h.bounded.1, holder-most dir path b.inside n k l)
-
     now-long : lengthened (end - at) (e - b.left) ≡ length (put (piece dir path b e) w.made)
     now-long =
         let k : e - b.left ≡ length (piece dir path b e) = sym (part_full (holder dir path b.inside) b.left e h.bounded.1) in
@@ -169,9 +144,6 @@ module _ {dir path : List ℕ} {end : ℕ} {out₀ out : List ℕ} {at : ℕ} {c
         ap (lengthened (end - at)) k
         ∙ ap (λ (m : ℕ). lengthened m (length (piece dir path b e))) n
         ∙ lengthened-put (piece dir path b e) w.made
-
-    pub written-room : lengthened (end - at) (e - b.left) ≤ end → length (closed at end (piece dir path b e)) ≤ at
-    written-room f = omega (arith, w.place, now-length, now-long)
 
     pub written-long : end < lengthened (end - at) (e - b.left) → end < length (resolve dir path)
     written-long f = omega (arith, now-long, reached_fits w.reached h)
@@ -200,9 +172,6 @@ module _ {dir out₀ out : List ℕ} {from end at : ℕ} {c : PathCursor} (to : 
 
   down-path : part from to out ≡ part from to out₀
   down-path = ap (take (to - from)) down-same
-
-  pub down_within : Within dir (part from to out) c
-  down_within = subst (λ (p : List ℕ). Within dir p c) (sym down-path) w.reached.within
 
   pub down_last : (r : Option PathPart) → LastPart dir (part from to out) c r → LastPart dir (part from to out₀) c r
   down_last r h = subst (λ (p : List ℕ). LastPart dir p c r) down-path h

@@ -18,10 +18,7 @@ fn lengthen(n: usize, k: usize) -> usize
     requires { n + k < 0xFFFF_FFFF_FFFF_FFFF }
     ensures { result ≡ lengthened n k }
 {
-    if n == 0 {
-        return k;
-    }
-    n + 1 + k
+    if n == 0 { k } else { n + 1 + k }
 }
 
 // How long a path in a directory is once it is resolved.
@@ -30,13 +27,11 @@ pub fn resolved_length(path: &[u8], dir: &[u8]) -> usize
 {
     let mut n = 0;
     let mut c = path::from_end(path);
-    loop {
-        let Some(PathPart { before, end }) = path::last_part(path, dir, c) else {
-            return n;
-        };
+    while let Some(PathPart { before, end }) = path::last_part(path, dir, c) {
         n = lengthen(n, end - before.left);
         c = before;
     }
+    n
 }
 
 // Writes a `/` before a place unless that is the end of all, and answers where what stands before it ends.
@@ -47,9 +42,8 @@ fn put_slash(at: usize, end: usize, out: &mut [u8]) -> usize
     if at == end {
         return at;
     }
-    let e = at - 1;
-    out[e] = b'/';
-    e
+    out[at - 1] = b'/';
+    at - 1
 }
 
 // Writes a part so that it ends at a place, with a `/` behind it unless that is the end of all, and answers where it starts.
@@ -76,11 +70,8 @@ fn put_kept(
     requires { Bounded dir.now path.now before e × ((length (closed at end (piece dir.now path.now before e)) ≤ at) × (at ≤ length out.old)) }
     ensures { Closed (piece dir.now path.now before e) at end out.old result out.new }
 {
-    let start = before.left;
-    if before.inside {
-        return put_part(&dir[start..e], at, end, out);
-    }
-    put_part(&path[start..e], at, end, out)
+    let holder = if before.inside { dir } else { path };
+    put_part(&holder[before.left..e], at, end, out)
 }
 
 // Writes a path in a directory, once it is resolved, so that it ends at a place.
@@ -90,10 +81,7 @@ pub fn put_resolved(path: &[u8], dir: &[u8], end: usize, out: &mut [u8])
 {
     let mut at = end;
     let mut c = path::from_end(path);
-    loop {
-        let Some(PathPart { before, end: e }) = path::last_part(path, dir, c) else {
-            return;
-        };
+    while let Some(PathPart { before, end: e }) = path::last_part(path, dir, c) {
         at = put_kept(path, dir, before, e, at, end, out);
         c = before;
     }
@@ -123,11 +111,10 @@ fn put_kept_down(
     requires { Bounded dir.now (drop from work.old) before e × ((length (closed at end (piece dir.now (drop from work.old) before e)) ≤ at) × ((at ≤ from) × (from ≤ length work.old))) }
     ensures { Closed (piece dir.now (drop from work.old) before e) at end work.old result work.new }
 {
-    let start = before.left;
     if before.inside {
-        return put_part(&dir[start..e], at, end, work);
+        return put_part(&dir[before.left..e], at, end, work);
     }
-    put_part_down(work, from + start, from + e, at, end)
+    put_part_down(work, from + before.left, from + e, at, end)
 }
 
 // The same as `put_resolved` where the path stands in the buffer itself, from a place up to another, behind what is written.
@@ -137,10 +124,7 @@ pub fn put_resolved_down(work: &mut [u8], from: usize, to: usize, dir: &[u8], en
 {
     let mut at = end;
     let mut c = path::from_end(&work[from..to]);
-    loop {
-        let Some(PathPart { before, end: e }) = path::last_part(&work[from..to], dir, c) else {
-            return;
-        };
+    while let Some(PathPart { before, end: e }) = path::last_part(&work[from..to], dir, c) {
         at = put_kept_down(work, from, dir, before, e, at, end);
         c = before;
     }
@@ -153,16 +137,14 @@ pub fn resolve_into(path: &[u8], dir: &[u8], out: &mut [u8]) -> Option<usize>
     let end = out.len();
     let mut at = end;
     let mut c = path::from_end(path);
-    loop {
-        let Some(PathPart { before, end: e }) = path::last_part(path, dir, c) else {
-            return Some(at);
-        };
+    while let Some(PathPart { before, end: e }) = path::last_part(path, dir, c) {
         if end < lengthen(end - at, e - before.left) {
             return None;
         }
         at = put_kept(path, dir, before, e, at, end, out);
         c = before;
     }
+    Some(at)
 }
 
 // Whether a path in a directory, once it is resolved, is this name.
@@ -171,14 +153,12 @@ pub fn resolves_to(path: &[u8], dir: &[u8], name: &[u8]) -> bool
 {
     let mut at = name.len();
     let mut c = path::from_end(path);
-    loop {
-        let Some(PathPart { before, end }) = path::last_part(path, dir, c) else {
-            return at == 0;
-        };
-        let Some(a) = path::find_kept(path, dir, before, end, name, at) else {
+    while let Some(PathPart { before, end }) = path::last_part(path, dir, c) {
+        let Some(start) = path::find_kept(path, dir, before, end, name, at) else {
             return false;
         };
-        at = a;
+        at = start;
         c = before;
     }
+    at == 0
 }

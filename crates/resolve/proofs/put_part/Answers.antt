@@ -3,19 +3,6 @@ use native.Mathlib.Omega.{arith}
 use Rattle.resolve.proofs.ResolveLaws.{closed-length, closed_on}
 use Rattle.resolve.proofs.put_part.Goals as goal
 
-pub put_slash-e-requires : goal.put_slash-e-requires
-put_slash-e-requires c = let a = c.args in omega (arith, closed-length a.part.now a.at a.end)
-
-pub overflow_sub-a : goal.overflow_sub-a
-overflow_sub-a c =
-    let a = c.args in
-    omega (arith, closed-length a.part.now a.at a.end, c.put_slash-e.ensures.0)
-
-pub copy-requires : goal.copy-requires
-copy-requires c =
-    let a = c.args in
-    omega (arith, closed-length a.part.now a.at a.end, c.put_slash-e.ensures.0)
-
 pub returns : goal.returns
 returns c =
     let a = c.args in
