@@ -1,1 +1,2 @@
 pub mod MarkerLaws
+pub mod Within

@@ -43,17 +43,12 @@ pub enum Kind {
 }
 
 // A path p at place o.
+#[tactic(auto, unfolding(crate::specs::Marker::path_of))]
 fn path_at(p: &[u8], o: usize, peer: bool) -> Option<Fragment>
     requires { o + length p.now < 2 ^ 64 }
     ensures { result ≡ path_of o peer p.now }
 {
-    if p.len() == 0 {
-        return None;
-    }
-    if pattern::contains(p, b"]-->") {
-        return None;
-    }
-    if pattern::contains(p, b":") {
+    if p.is_empty() || pattern::contains(p, b"]-->") || pattern::contains(p, b":") {
         return None;
     }
     Some(Fragment {
@@ -64,6 +59,7 @@ fn path_at(p: &[u8], o: usize, peer: bool) -> Option<Fragment>
 }
 
 // The path that a trimmed line at place o names, and its placement, where the whole line is a fragment marker.
+#[tactic(auto, using(crate::proofs::Within::lengths), unfolding(crate::specs::Marker::alone_of, crate::specs::Marker::rest_of, crate::specs::Marker::named_of))]
 fn fragment_spec(line: &[u8], o: usize) -> Option<Fragment>
     requires { o + length line.now < 2 ^ 64 }
     ensures { result ≡ alone_of o line.now }
@@ -85,27 +81,21 @@ fn fragment_spec(line: &[u8], o: usize) -> Option<Fragment>
 }
 
 // What a line is whose first marker stands at place i of it, outside a fence, where it closes no region.
-fn fragment_kind(fragment: Fragment, line: &[u8], i: usize, inside: bool) -> Kind
+#[tactic(auto, using(crate::proofs::Within::lengths), unfolding(crate::specs::Marker::fragment_kind))]
+fn fragment_kind(fragment: Option<Fragment>, line: &[u8], i: usize, inside: bool) -> Kind
     requires { find_in OPEN line.now ≡ Some i }
     ensures { result ≡ fragment_kind inside i line.now fragment }
 {
     match fragment {
-        Some(Fragment { start, end, peer }) => {
-            if inside {
-                return Kind::Fault(2);
-            }
-            Kind::Opens { start, end, peer }
-        }
-        None => {
-            if pattern::contains(&line[i..], b"<!--[fragment:") {
-                return Kind::Fault(3);
-            }
-            Kind::Spans(i)
-        }
+        Some(_) if inside => Kind::Fault(2),
+        Some(Fragment { start, end, peer }) => Kind::Opens { start, end, peer },
+        None if pattern::contains(&line[i..], b"<!--[fragment:") => Kind::Fault(3),
+        None => Kind::Spans(i),
     }
 }
 
 // What a line at place o is whose first marker stands at place i of it.
+#[tactic(auto, unfolding(crate::specs::Marker::marked_kind))]
 fn marked_kind(line: &[u8], i: usize, o: usize, fence: bool, inside: bool) -> Kind
     requires { (o + length line.now < 2 ^ 64) × (find_in OPEN line.now ≡ Some i) }
     ensures { result ≡ marked_kind fence inside o line.now (find_in OPEN line.now) }
@@ -123,6 +113,7 @@ fn marked_kind(line: &[u8], i: usize, o: usize, fence: bool, inside: bool) -> Ki
 }
 
 // What a line at place o is, where a fence or a region may be open above it.
+#[tactic(auto, unfolding(crate::specs::Marker::kind_of, crate::specs::Marker::marked_kind))]
 pub fn kind_of(line: &[u8], o: usize, fence: bool, inside: bool) -> Kind
     requires { o + length line.now < 2 ^ 64 }
     ensures { result ≡ kind_of fence inside o line.now }
@@ -130,8 +121,7 @@ pub fn kind_of(line: &[u8], o: usize, fence: bool, inside: bool) -> Kind
     if fence::is_fence(line) {
         return Kind::Fence;
     }
-    let f = pattern::find(line, b"<!--[");
-    match f {
+    match pattern::find(line, b"<!--[") {
         Some(i) => marked_kind(line, i, o, fence, inside),
         None => Kind::Plain,
     }

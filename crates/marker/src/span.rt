@@ -27,33 +27,26 @@ pub enum Stop {
 }
 
 // The text of a span, and what follows it on the line: b, after a spec of j bytes at place o.
+#[tactic(auto, using(crate::proofs::Within::lengths), unfolding(crate::specs::Marker::text_of))]
 fn text_mark(b: &[u8], o: usize, j: usize) -> Mark
     requires { o + j + 4 + length b.now < 2 ^ 64 }
     ensures { result ≡ text_of o j b.now (find_in CLOSE b.now) }
 {
-    let f = pattern::find(b, b"<!--[/]-->");
-    match f {
-        Some(k) => {
-            let nested = pattern::contains(&b[..k], b"<!--[");
-            let empty = j == 0;
-            if nested {
-                return Mark::Problem(9);
-            }
-            if empty {
-                return Mark::Problem(10);
-            }
-            Mark::Marked {
-                spec_start: o,
-                spec_end: o + j,
-                text_start: o + j + 4,
-                text_end: o + j + 4 + k,
-            }
-        }
+    match pattern::find(b, b"<!--[/]-->") {
         None => Mark::Problem(8),
+        Some(k) if pattern::contains(&b[..k], b"<!--[") => Mark::Problem(9),
+        Some(_) if j == 0 => Mark::Problem(10),
+        Some(k) => Mark::Marked {
+            spec_start: o,
+            spec_end: o + j,
+            text_start: o + j + 4,
+            text_end: o + j + 4 + k,
+        },
     }
 }
 
 // What is read at a marker whose `<!--[` ends at place o, b being the rest of the line.
+#[tactic(auto, using(crate::proofs::Within::lengths), unfolding(crate::specs::Marker::mark_of, crate::specs::Marker::spec_of))]
 fn read_mark(b: &[u8], o: usize) -> Mark
     requires { o + length b.now < 2 ^ 64 }
     ensures { result ≡ mark_of o b.now }
@@ -61,27 +54,20 @@ fn read_mark(b: &[u8], o: usize) -> Mark
     if pattern::starts_with(b, b"/") {
         return Mark::Problem(6);
     }
-    let f = pattern::find(b, b"]-->");
-    match f {
-        Some(j) => {
-            let a = j + 4;
-            text_mark(&b[a..], o, j)
-        }
+    match pattern::find(b, b"]-->") {
+        Some(j) => text_mark(&b[j + 4..], o, j),
         None => Mark::Problem(7),
     }
 }
 
 // The first marker of r, the rest of a line from place o on.
+#[tactic(auto, using(crate::proofs::Within::lengths), unfolding(crate::specs::Marker::next_mark, crate::specs::Marker::first_of))]
 pub fn next_mark(r: &[u8], o: usize) -> Mark
     requires { o + length r.now < 2 ^ 64 }
     ensures { result ≡ next_mark o r.now }
 {
-    let f = pattern::find(r, b"<!--[");
-    match f {
-        Some(i) => {
-            let a = i + 5;
-            read_mark(&r[a..], o + i + 5)
-        }
+    match pattern::find(r, b"<!--[") {
+        Some(i) => read_mark(&r[i + 5..], o + i + 5),
         None => Mark::End,
     }
 }

@@ -5,9 +5,8 @@ use Prim.Native.Nat.{ℕ, ◌≤◌, ◌-◌}
 use mathlib.Core.Path.{sym, ◌∙◌}
 use native.Mathlib.Omega.{arith}
 use lib.ListN.{length, take, length-take}
-use lib.Seq.{length-take-le}
 use Rattle.text.proofs.BytesLaws.{rest, rest-length}
-use Rattle.text.proofs.PatternLaws.{starts-long, ends-long}
+use Rattle.text.proofs.PatternLaws.{starts-long}
 use Rattle.marker.specs.Marker.{alone_of, rest_of, named_of, OPEN-FRAGMENT}
 use Rattle.marker.proofs.line.fragment_spec.Goals.{Else-not-starts_with}
 use Rattle.marker.proofs.line.fragment_spec.Goals as goal
@@ -29,59 +28,18 @@ spec-length l = omega (arith, rest-length l 14, length-take (length (behind_of l
 path-length : (l : List ℕ) → length (take (length (spec_of l) - 5) (spec_of l)) ≤ length l - 14
 path-length l = omega (arith, spec-length l, length-take (length (spec_of l) - 5) (spec_of l))
 
-pub returns-then-not-starts_with : goal.returns-then-not-starts_with
-unfolding alone_of
-returns-then-not-starts_with c = rw (sym c.starts_with.ensures ∙ c.if-not-starts_with.true)
-
-pub slice_bounds-rest-count : goal.slice_bounds-rest-count
-slice_bounds-rest-count c = long (goal.at.slice_bounds-rest-count c).Else-not-starts_with
-
-pub slice_bounds-rest-start : goal.slice_bounds-rest-start
-slice_bounds-rest-start c = long (goal.at.slice_bounds-rest-start c).Else-not-starts_with
-
-pub returns-then-not-ends_with : goal.returns-then-not-ends_with
-unfolding alone_of rest_of
-returns-then-not-ends_with c = rw (sym c.starts_with.ensures ∙ c.if-not-starts_with.false, rw rest at (sym c.ends_with.ensures ∙ c.if-not-ends_with.true))
-
-pub overflow_sub-end : goal.overflow_sub-end
-overflow_sub-end c = ends-long _ _ (sym c.ends_with.ensures ∙ c.if-not-ends_with.false)
-
-pub slice_bounds-spec-end : goal.slice_bounds-spec-end
-slice_bounds-spec-end c = sym (length-take-le _ _ (omega arith))
-
-pub overflow_sub-end-then-ends_with : goal.overflow_sub-end-then-ends_with
-overflow_sub-end-then-ends_with c = ends-long _ _ (sym c.ends_with-2.ensures ∙ c.if-ends_with.true)
-
-pub slice_bounds-path_at-end : goal.slice_bounds-path_at-end
-slice_bounds-path_at-end c = sym (length-take-le _ _ (omega arith))
-
-pub overflow_add-o : goal.overflow_add-o
-overflow_add-o c = omega (arith, long (goal.at.overflow_add-o c).Else-not-starts_with)
-
 pub path_at-requires : goal.path_at-requires
 path_at-requires c = omega (arith, long (goal.at.path_at-requires c).Else-not-starts_with, path-length c.args.line.now)
-
-pub returns-then-ends_with : goal.returns-then-ends_with
-unfolding alone_of rest_of named_of
-returns-then-ends_with c =
-    let sw = c.starts_with in
-    let i1 = c.if-not-starts_with in
-    let ew = c.ends_with in
-    let i2 = c.if-not-ends_with in
-    let ew2 = c.ends_with-2 in
-    rw (sym sw.ensures ∙ i1.false, rw rest at (sym ew.ensures ∙ i2.false), rw rest at (sym ew2.ensures ∙ c.if-ends_with.true)) (rw rest at c.path_at.ensures)
-
-pub overflow_add-o-2 : goal.overflow_add-o-2
-overflow_add-o-2 c = omega (arith, long (goal.at.overflow_add-o-2 c).Else-not-starts_with)
 
 pub path_at-requires-2 : goal.path_at-requires-2
 path_at-requires-2 c = omega (arith, long (goal.at.path_at-requires-2 c).Else-not-starts_with, spec-length c.args.line.now)
 
+pub returns-then-ends_with : goal.returns-then-ends_with
+unfolding alone_of rest_of named_of
+returns-then-ends_with c =
+    rw (sym c.starts_with.ensures ∙ c.if-not-starts_with.false, rw rest at (sym c.ends_with.ensures ∙ c.if-not-ends_with.false), rw rest at (sym c.ends_with-2.ensures ∙ c.if-ends_with.true)) (rw rest at c.path_at.ensures)
+
 pub returns : goal.returns
 unfolding alone_of rest_of named_of
 returns c =
-    let sw = c.starts_with in
-    let i1 = c.if-not-starts_with in
-    let ew = c.ends_with in
-    let i2 = c.if-not-ends_with in
-    rw (sym sw.ensures ∙ i1.false, rw rest at (sym ew.ensures ∙ i2.false), rw rest at (sym c.ends_with-2.ensures ∙ c.if-ends_with.false)) (rw rest at c.path_at-2.ensures)
+    rw (sym c.starts_with.ensures ∙ c.if-not-starts_with.false, rw rest at (sym c.ends_with.ensures ∙ c.if-not-ends_with.false), rw rest at (sym c.ends_with-2.ensures ∙ c.if-ends_with.false)) (rw rest at c.path_at-2.ensures)

@@ -24,10 +24,6 @@ no-closer c e =
       | else-inside-via-else-inside w ↦ rw w.if-inside.false
     ]
 
-pub returns-then-fence : goal.returns-then-fence
-unfolding marked_kind
-returns-then-fence c = rw (c.requires.1, c.if-fence.true)
-
 pub returns-then-equals : goal.returns-then-equals
 unfolding marked_kind
 returns-then-equals c = rw (c.requires.1, c.if-fence.false, c.if-inside.true, rw (trimmed (goal.at.returns-then-equals c).After-kept) at (sym c.equals.ensures ∙ c.if-equals.true))
