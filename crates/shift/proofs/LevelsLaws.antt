@@ -1,10 +1,10 @@
 -- Laws of `specs/Levels.antt`: levels found line by line, the first line that goes past, and the shift. Assumes nothing.
 use Rattle.std.specs.Prelude.{Option, Some, None, Ok, Err}
-use Prim.Native.Nat.{ℕ, zero, suc, ◌+◌, ◌≤◌, max}
-use native.Mathlib.Nat.{max-eq_left, max-eq_right}
+use Rattle.std.specs.Option.{is_some}
+use Prim.Native.Nat.{ℕ, zero, suc, ◌+◌, ◌≤◌}
 use native.Mathlib.Omega.{arith}
 use mathlib.Core.Path.{◌≡◌, refl, sym, subst, ap, ◌∙◌}
-use mathlib.Core.Bool.{Bool, true, false, or-false}
+use mathlib.Core.Bool.{Bool, true, false, or-false, false≢true}
 use mathlib.Core.List.{List, [], ◌∷◌}
 use lib.ListN.{length}
 use lib.IntN.{ℤ, pos, ◌+ℤ◌}
@@ -30,13 +30,6 @@ step-level f c l = go (step_kind f c l) (kind-within f c l)
     go Quoted w = tt
     go (Heading n a e) w = (w n a e refl).0
     go Other w = tt
-
--- the deeper of two levels
-pub deeper_new : (b n : ℕ) → b ≤ n → n ≡ max b n
-deeper_new b n h = sym (max-eq_right h)
-
-pub deeper_old : (b n : ℕ) → n ≤ b → b ≡ max b n
-deeper_old b n h = sym (max-eq_left h)
 
 deeper-small : (b : ℕ) (k : LineKind) → HasLevel k → b ≤ 6 → deeper b k ≤ 6
 deeper-small b Quoted h q = q
@@ -76,26 +69,26 @@ found_all s st f =
       small = omega (arith, f.deep, deepest-small 0 walk_begin (pieces s) (omega arith));
     }
 
--- one of the lines that are left goes past, and n lines stand before them
+-- one of the lines that are left goes past, and line n, counted from 1, is the first of them
 pub record Ahead (z : ℤ) (ks rest : List LineKind) (n : ℕ) : Type 0 where
   pub some : any_past z rest ≡ true
-  pub count : n + first_past z rest ≡ first_past z ks
+  pub count : n + first_past z rest ≡ 1 + first_past z ks
 
 module _ {z : ℤ} {ks rest more : List LineKind} {k : LineKind} {n : ℕ} (h : Ahead z ks rest n) (p : rest ≡ k ∷ more) where
   -- it is the first of them
-  pub ahead_here : true ≡ goes_past z k → n + 1 ≡ 1 + first_past z ks
+  pub ahead_here : true ≡ goes_past z k → n ≡ 1 + first_past z ks
   unfolding first_past
-  ahead_here q = let e : n + first_past z (k ∷ more) ≡ first_past z ks = rw p at h.count in omega (arith, rw (← q) at e)
+  ahead_here q = let e : n + first_past z (k ∷ more) ≡ 1 + first_past z ks = rw p at h.count in omega (arith, rw (← q) at e)
 
   -- it comes later
   pub ahead_turn : false ≡ goes_past z k → Ahead z ks more (n + 1)
   unfolding any_past first_past
   ahead_turn q =
-      let e : n + suc (first_past z more) ≡ first_past z ks = rw (p, ← q) at h.count in
+      let e : n + suc (first_past z more) ≡ 1 + first_past z ks = rw (p, ← q) at h.count in
       record { some = rw (p, ← q) at h.some; count = omega arith }
 
 -- it is the last line
-pub ahead_last : {z : ℤ} {ks rest : List LineKind} {k : LineKind} {n : ℕ} (st : WalkState) → Ahead z ks rest n → rest ≡ k ∷ kinds_from st [] → n + 1 ≡ 1 + first_past z ks
+pub ahead_last : {z : ℤ} {ks rest : List LineKind} {k : LineKind} {n : ℕ} (st : WalkState) → Ahead z ks rest n → rest ≡ k ∷ kinds_from st [] → n ≡ 1 + first_past z ks
 unfolding any_past kinds_from
 ahead_last {z} {k = k} st h p = ahead_here h p (sym (rw (p, or-false) at h.some))
 
@@ -105,16 +98,21 @@ module _ (s : List ℕ) (target : ℕ) {top : Option ℕ} {d : ℕ} (a : AreLeve
   shift_is = r ∙ ap (shift_of target) a.shallow
 
   -- a heading goes past where the deepest does
-  pub shift_past : {b : Bool} (n : ℕ) → top ≡ Some n → 1 ≤ target → b ≡ is_past (moved_to (pos d +ℤ x)) → any_past x (kinds_in s) ≡ b
-  shift_past n q h p = go target h (r ∙ ap (shift_of target) q) ∙ sym p
+  pub shift_past : {b : Bool} → 1 ≤ target → is_some top ≡ true → b ≡ is_past (moved_to (pos d +ℤ x)) → any_past x (kinds_in s) ≡ b
+  shift_past h w p = go target top h w refl r ∙ sym p
     where
-      go : (t : ℕ) → 1 ≤ t → x ≡ shift_of t (Some n) → any_past x (kinds_in s) ≡ is_past (moved_to (pos d +ℤ x))
-      go zero k e = absurd (omega arith)
-      go (suc m) k e = rw (a.deep, e) (deepest-past n m (shift_of (suc m) (Some n)) (shift_level (suc m) n) (kinds_in s) (sym a.shallow ∙ q))
+      go : (t : ℕ) (o : Option ℕ) → 1 ≤ t → is_some o ≡ true → top ≡ o → x ≡ shift_of t o → any_past x (kinds_in s) ≡ is_past (moved_to (pos d +ℤ x))
+      go zero o k w q e = absurd (omega arith)
+      go (suc m) None k w q e = absurd (false≢true w)
+      go (suc m) (Some n) k w q e = rw (a.deep, e) (deepest-past n m (shift_of (suc m) (Some n)) (shift_level (suc m) n) (kinds_in s) (sym a.shallow ∙ q))
 
   -- with no heading none does
-  pub shift_none : top ≡ None → any_past x (kinds_in s) ≡ false
-  shift_none q = none-past x (kinds_in s) (sym a.shallow ∙ q)
+  pub shift_none : is_some top ≡ false → any_past x (kinds_in s) ≡ false
+  shift_none w = go top w refl
+    where
+      go : (o : Option ℕ) → is_some o ≡ false → top ≡ o → any_past x (kinds_in s) ≡ false
+      go None w q = none-past x (kinds_in s) (sym a.shallow ∙ q)
+      go (Some n) w q = absurd (false≢true (sym w))
 
   -- the answers
   pub shift_by : mag x ≤ 7 → any_past x (kinds_in s) ≡ false → ShiftTo s target (Ok x)

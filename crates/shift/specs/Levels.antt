@@ -1,5 +1,5 @@
 -- The levels of a text's headings, and the shift of them. Nothing here is document 01's: functions promise it.
-use Rattle.std.specs.Prelude.{ℕ, ◌+◌, ◌≤◌, ◌≡◌, true, false, List, Option, None, Result, Ok, Err}
+use Rattle.std.specs.Prelude.{ℕ, ℤ, ◌+◌, ◌≤◌, ◌≡◌, true, false, List, Option, None, Result, Ok, Err}
 use Rattle.std.specs.Int.Signed.{mag}
 use Rattle.text.specs.Lines.{pieces}
 use Rattle.heading.specs.Walk.{walk_begin, kinds_from}

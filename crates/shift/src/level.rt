@@ -19,18 +19,8 @@ fn deeper(found: usize, kind: LineKind) -> usize
     ensures { result ≡ deeper_of found kind }
 {
     match kind {
-        LineKind::Quoted => found,
-        LineKind::Heading {
-            level,
-            start: _,
-            end: _,
-        } => {
-            if found < level {
-                return level;
-            }
-            found
-        }
-        LineKind::Other => found,
+        LineKind::Heading { level, .. } => found.max(level),
+        _ => found,
     }
 }
 
@@ -38,9 +28,8 @@ fn deeper(found: usize, kind: LineKind) -> usize
 pub fn with_line(found: Levels, kind: LineKind) -> Levels
     ensures { (result.top ≡ shallower found.top kind) × (result.deepest ≡ deeper_of found.deepest kind) }
 {
-    let top = found.top;
     Levels {
-        top: level::shallower(top, kind),
+        top: level::shallower(found.top, kind),
         deepest: deeper(found.deepest, kind),
     }
 }
@@ -54,18 +43,16 @@ fn levels_of(s: &[u8]) -> Levels
         deepest: 0,
     };
     let mut state = walk::begin();
-    let mut a = 0;
+    let mut start = 0;
     loop {
-        let p = lines::piece(s, a);
-        let e = p.end;
-        let w = walk::step(state, &s[a..e]);
-        let kind = w.kind;
-        found = with_line(found, kind);
-        if p.last {
+        let line = lines::piece(s, start);
+        let walked = walk::step(state, &s[start..line.end]);
+        found = with_line(found, walked.kind);
+        if line.last {
             return found;
         }
-        state = w.state;
-        a = e + 1;
+        state = walked.state;
+        start = line.end + 1;
     }
 }
 
@@ -74,10 +61,7 @@ pub fn is_past(level: usize, shift: i32) -> bool
     requires { (level ≤ 7) × (mag shift ≤ 7) }
     ensures { result ≡ is_past (moved_to (pos level +ℤ shift)) }
 {
-    match level::shifted(level, shift) {
-        Some(_) => false,
-        None => true,
-    }
+    level::shifted(level, shift).is_none()
 }
 
 // Whether a shift takes a line's heading past them.
@@ -86,13 +70,8 @@ pub fn goes_past(kind: LineKind, shift: i32) -> bool
     ensures { result ≡ goes_past shift kind }
 {
     match kind {
-        LineKind::Quoted => false,
-        LineKind::Heading {
-            level,
-            start: _,
-            end: _,
-        } => is_past(level, shift),
-        LineKind::Other => false,
+        LineKind::Heading { level, .. } => is_past(level, shift),
+        _ => false,
     }
 }
 
@@ -101,41 +80,31 @@ fn past_line(s: &[u8], shift: i32) -> usize
     requires { (mag shift ≤ 7) × (any_past shift (kinds_in s.now) ≡ true) }
     ensures { result ≡ 1 + first_past shift (kinds_in s.now) }
 {
-    let mut n: usize = 0;
+    let mut number = 1;
     let mut state = walk::begin();
-    let mut a = 0;
+    let mut start = 0;
     loop {
-        let p = lines::piece(s, a);
-        let e = p.end;
-        if p.last {
-            return n + 1;
+        let line = lines::piece(s, start);
+        let walked = walk::step(state, &s[start..line.end]);
+        if line.last || goes_past(walked.kind, shift) {
+            return number;
         }
-        let w = walk::step(state, &s[a..e]);
-        let kind = w.kind;
-        if goes_past(kind, shift) {
-            return n + 1;
-        }
-        n += 1;
-        state = w.state;
-        a = e + 1;
+        number += 1;
+        state = walked.state;
+        start = line.end + 1;
     }
 }
 
-// The shift of a text's headings that takes the shallowest to the target.
+// The shift of a text's headings that takes the shallowest to the target; or the first line whose
+// heading goes past level 6 then, counted from 1.
 pub fn shift_of(s: &[u8], target: usize) -> Result<i32, usize>
     requires { (1 ≤ target) × (target ≤ 7) }
     ensures { ShiftTo s.now target result }
 {
     let found = levels_of(s);
-    let top = found.top;
-    let shift = level::shift_to(target, top);
-    match top {
-        Some(_) => {
-            if is_past(found.deepest, shift) {
-                return Err(past_line(s, shift));
-            }
-            Ok(shift)
-        }
-        None => Ok(shift),
+    let shift = level::shift_to(target, found.top);
+    if found.top.is_some() && is_past(found.deepest, shift) {
+        return Err(past_line(s, shift));
     }
+    Ok(shift)
 }

@@ -1,15 +1,11 @@
 -- `shift::ends::blank_ends` meets its contract: a law for each answer. Assumes nothing.
 use native.Mathlib.Omega.{arith}
 use mathlib.Core.Path.{sym, ◌∙◌}
-use lib.Seq.{length-take-le}
 use Rattle.shift.proofs.EndsLaws.{ends-none, ends-part}
 use Rattle.shift.proofs.ends.blank_ends.Goals as goal
 
 pub returns-then-k-eq0 : goal.returns-then-k-eq0
 returns-then-k-eq0 c = ends-none c.args.s.now (sym c.kept-k.ensures.0 ∙ omega arith)
-
-pub slice_bounds-after_last-end : goal.slice_bounds-after_last-end
-slice_bounds-after_last-end c = sym (length-take-le c.lead-i.result c.args.s.now (omega arith))
 
 pub returns : goal.returns
 returns c =

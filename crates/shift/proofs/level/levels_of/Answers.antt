@@ -1,7 +1,5 @@
--- `shift::level::levels_of` meets its contract. The invariant: the levels found, with those of the pieces from a on, are the levels of all.
--- Assumes nothing.
+-- `shift::level::levels_of` meets its contract: each line in turn. Assumes nothing.
 use Prim.Native.Nat.{◌+◌}
-use mathlib.Core.Path.{refl}
 use mathlib.Core.List.{[]}
 use native.Mathlib.Omega.{arith}
 use lib.ListN.{drop}
@@ -11,45 +9,24 @@ use Rattle.text.proofs.LineLaws.{before-end}
 use Rattle.shift.proofs.LevelsLaws.{kinds_turn, found_turn, found_all}
 use Rattle.shift.proofs.level.levels_of.Goals as goal
 
-pub loop-w-init : goal.loop-w-init
-loop-w-init c = (omega arith, rw c.begin-state.ensures (record { shallow = refl; deep = refl }))
-
-pub piece-p-requires : goal.piece-p-requires
-piece-p-requires c = omega arith
-
-pub slice_bounds-step-count : goal.slice_bounds-step-count
-slice_bounds-step-count c = omega arith
-
-pub slice_bounds-step-start : goal.slice_bounds-step-start
-slice_bounds-step-start c = omega arith
-
-pub slice_bounds-step-end : goal.slice_bounds-step-end
-slice_bounds-step-end c = omega arith
-
-pub returns-then-p : goal.returns-then-p
-returns-then-p c =
+pub returns-then-line : goal.returns-then-line
+returns-then-line c =
     let s = c.args.s.now in
-    let l = c.loop-w in
-    let p = c.piece-p in
-    let w = c.step-w in
+    let l = c.loop-line in
+    let p = c.piece-line in
+    let w = c.step-walked in
     let v = c.with_line-found.ensures in
     found_all s w.result.state
-    (found_turn l.invariant.1 (kinds_turn l.state (part l.a p.result.end s) [] (rw c.if-p.true at p.ensures.s_value) w.ensures.0 w.ensures.1) v.0 v.1)
+    (found_turn l.invariant.1 (kinds_turn l.state (part l.start p.result.end s) [] (rw c.if-line.true at p.ensures.s_value) w.ensures.0 w.ensures.1) v.0 v.1)
 
-pub overflow_add-a : goal.overflow_add-a
-overflow_add-a c = let p = c.piece-p.ensures.from_le_end in omega (arith, before-end p.1.1 c.if-p.false p.1.0)
-
-pub loop-w-smaller : goal.loop-w-smaller
-loop-w-smaller c = let p = c.piece-p.ensures.from_le_end in omega (arith, before-end p.1.1 c.if-p.false p.1.0)
-
-pub loop-w-preserved : goal.loop-w-preserved
-loop-w-preserved c =
+pub loop-line-preserved : goal.loop-line-preserved
+loop-line-preserved c =
     let s = c.args.s.now in
-    let l = c.loop-w in
-    let p = c.piece-p in
-    let w = c.step-w in
+    let l = c.loop-line in
+    let p = c.piece-line in
+    let w = c.step-walked in
     let v = c.with_line-found.ensures in
     let rest = pieces (drop (p.result.end + 1) s) in (
-      omega (arith, before-end p.ensures.from_le_end.1.1 c.if-p.false p.ensures.from_le_end.1.0),
-      found_turn l.invariant.1 (kinds_turn l.state (part l.a p.result.end s) rest (rw c.if-p.false at p.ensures.s_value) w.ensures.0 w.ensures.1) v.0 v.1,
+      omega (arith, before-end p.ensures.from_le_end.1.1 c.if-line.false p.ensures.from_le_end.1.0),
+      found_turn l.invariant.1 (kinds_turn l.state (part l.start p.result.end s) rest (rw c.if-line.false at p.ensures.s_value) w.ensures.0 w.ensures.1) v.0 v.1,
     )
