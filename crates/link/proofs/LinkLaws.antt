@@ -8,8 +8,9 @@ use mathlib.Core.Bool.{Bool, true, false, cond}
 use mathlib.Core.List.{List, [], ◌∷◌, ◌++◌, append-nil}
 use lib.ListN.{length, take, drop, length-drop, length-append, take-append-drop}
 use lib.Seq.{append_snoc, drop-drop}
-use lib.Dec.{eqb}
-use borrow.Author.Tests.{eqb-true}
+use lib.Dec.{eqb, ltb}
+use borrow.Author.Tests.{eqb-true, ltb-true, ltb-false}
+use Rattle.std.specs.Bool.{then_some}
 use Rattle.text.specs.Bytes.{part, is, first}
 use Rattle.text.specs.Pattern.{bytes, starts_with, find, later}
 use Rattle.text.proofs.BytesLaws.{rest, rest-length}
@@ -91,7 +92,7 @@ module _ (l : List ℕ) (n i : ℕ) (found : find (bytes "](") (part n (length l
   target-from f = subst (Opened f (drop n l)) (rw rest at found) (opened f (drop n l)) ∙ rw target_at
 
   module _ (e : ℕ) (stop : e ≡ n + i + 2 + first (is 0x29) (drop (n + i + 2) l)) where
-    pub link_found : e < length l → (f : List ℕ → List ℕ)
+    link_found : e < length l → (f : List ℕ → List ℕ)
         → relink f (drop n l) ≡ part n (n + i + 2) l ++ (f (part (n + i + 2) e l) ++ relink f (drop e l))
     link_found h f =
         let a : ℕ = n + i + 2 in
@@ -100,10 +101,18 @@ module _ (l : List ℕ) (n i : ℕ) (found : find (bytes "](") (part n (length l
         let k : e - a ≡ c = omega arith in
         target-from f ∙ rw (target-closed f [] (drop a l) (omega (arith, length-drop a l)), drop-drop c a l, j, k, ← stop)
 
-    pub none-closed : length l ≤ e → (f : List ℕ → List ℕ) → relink f (drop n l) ≡ drop n l
+    none-closed : length l ≤ e → (f : List ℕ → List ℕ) → relink f (drop n l) ≡ drop n l
     none-closed h f =
         let a : ℕ = n + i + 2 in
         target-from f ∙ rw (target_open f [] (drop a l) (omega (arith, length-drop a l)), ← target_at) (take-append-drop (i + 2) (drop n l))
+
+    -- the first link from place n on, or none where no `)` follows
+    pub link_or_none : n ≤ length l → FoundLink l n (then_some (ltb e (length l)) (record { start = n + i + 2; end = e }))
+    link_or_none h = go (ltb e (length l)) refl
+      where
+        go : (b : Bool) → ltb e (length l) ≡ b → FoundLink l n (then_some b (record { start = n + i + 2; end = e }))
+        go true q = let k : e < length l = ltb-true e (length l) q in ((omega arith, (omega arith, k)), link_found k)
+        go false q = none-closed (ltb-false e (length l) q)
 
 -- a link takes bytes, since it can become any text
 pub link_long : (l : List ℕ) (i a e : ℕ) → FoundLink l i (Some (record { start = a; end = e })) → i < e

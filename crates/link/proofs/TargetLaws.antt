@@ -1,6 +1,6 @@
 -- Laws of `specs/Target.antt`: where a target's path ends, and what a target becomes in a file that is taken into a host. Assumes nothing.
 use Rattle.std.specs.Prelude.{Option, Some, None}
-use Prim.Native.Nat.{ℕ, ◌≤◌}
+use Prim.Native.Nat.{ℕ, ◌≤◌, ◌<◌}
 use native.Mathlib.Omega.{arith}
 use mathlib.Core.Path.{◌≡◌, subst}
 use mathlib.Core.Bool.{Bool, true, false, cond, ◌||◌, and-false}
@@ -29,8 +29,8 @@ path-within t e p = subst (Inside t) p (go (is_right t || eqb (length t) 0))
     go false = first_le (is 0x23) t
 
 -- a fragment is there where the path ends before the target does
-pub fragment_some : (t : List ℕ) (e : ℕ) → e ≤ length t → (e ≡ length t → ⊥) → eqb (length (drop e t)) 0 ≡ false
-fragment_some t e h q = ne_eqb (length (drop e t)) 0 (λ z. q (omega (arith, length-drop e t)))
+fragment_some : (t : List ℕ) (e : ℕ) → e < length t → eqb (length (drop e t)) 0 ≡ false
+fragment_some t e h = ne_eqb (length (drop e t)) 0 (λ z. omega (arith, length-drop e t))
 
 -- what a target becomes in a file that is taken into a host
 module _ (host dir t : List ℕ) where
@@ -39,13 +39,15 @@ module _ (host dir t : List ℕ) where
   anchor_untouched p = rw p
 
   module _ (e : ℕ) (p : target_of t ≡ Some e) where
-    pub anchor_bare : e ≡ length t → t ≡ anchor_self host dir t
+    pub anchor_bare : length t ≤ e → t ≡ anchor_self host dir t
     unfolding anchor_self
-    anchor_bare q = rw (p, q, drop-length t, and-false (equals host (resolve dir (take (length t) t))))
+    anchor_bare q =
+        let k : e ≡ length t = omega (arith, path-within t e p) in
+        rw (p, k, drop-length t, and-false (equals host (resolve dir (take (length t) t))))
 
-    pub anchor_host : (e ≡ length t → ⊥) → equals host (resolve dir (take e t)) ≡ true → drop e t ≡ anchor_self host dir t
+    pub anchor_host : e < length t → equals host (resolve dir (take e t)) ≡ true → drop e t ≡ anchor_self host dir t
     unfolding anchor_self
-    anchor_host q h = rw (p, h, fragment_some t e (path-within t e p) q)
+    anchor_host q h = rw (p, h, fragment_some t e q)
 
     pub anchor_other : equals host (resolve dir (take e t)) ≡ false → t ≡ anchor_self host dir t
     unfolding anchor_self

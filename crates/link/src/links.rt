@@ -10,16 +10,7 @@ pub fn next_link(line: &[u8], from: usize) -> Option<Part>
     requires { from ≤ length line.now }
     ensures { FoundLink line.now from result }
 {
-    let f = pattern::find(&line[from..], b"](");
-    match f {
-        Some(i) => {
-            let start = from + i + 2;
-            let end = bytes::find_byte(line, start, b')');
-            if end == line.len() {
-                return None;
-            }
-            Some(Part { start, end })
-        }
-        None => None,
-    }
+    let start = from + pattern::find(&line[from..], b"](")? + 2;
+    let end = bytes::find_byte(line, start, b')');
+    (end < line.len()).then_some(Part { start, end })
 }

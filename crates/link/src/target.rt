@@ -8,23 +8,17 @@ use text::{bytes, pattern};
 fn is_right(target: &[u8]) -> bool
     ensures { result ≡ is_right target.now }
 {
-    if pattern::starts_with(target, b"#") {
-        return true;
-    }
-    if pattern::contains(target, b"://") {
-        return true;
-    }
-    pattern::starts_with(target, b"mailto:")
+    pattern::starts_with(target, b"#")
+        || pattern::contains(target, b"://")
+        || pattern::starts_with(target, b"mailto:")
 }
 
 // Takes a target apart.
+#[tactic(auto, unfolding(crate::specs::Target::target_of))]
 pub fn read_target(target: &[u8]) -> Option<usize>
     ensures { result ≡ target_of target.now }
 {
-    if is_right(target) {
-        return None;
-    }
-    if target.len() == 0 {
+    if is_right(target) || target.is_empty() {
         return None;
     }
     Some(bytes::find_byte(target, 0, b'#'))
@@ -35,16 +29,8 @@ pub fn anchor_self(target: &[u8], dir: &[u8], host: &[u8]) -> usize
     ensures { (drop result target.now ≡ anchor_self host.now dir.now target.now) × (result ≤ length target.now) }
 {
     match read_target(target) {
-        None => 0,
-        Some(e) => {
-            if e == target.len() {
-                return 0;
-            }
-            if resolve::resolves_to(&target[..e], dir, host) {
-                return e;
-            }
-            0
-        }
+        Some(end) if end < target.len() && resolve::resolves_to(&target[..end], dir, host) => end,
+        _ => 0,
     }
 }
 
@@ -52,12 +38,9 @@ pub fn anchor_self(target: &[u8], dir: &[u8], host: &[u8]) -> usize
 pub fn url_length(url: &[u8]) -> usize
     ensures { (take result url.now ≡ trim_slashes url.now) × (result ≤ length url.now) }
 {
-    let mut e = url.len();
-    while 0 < e {
-        if url[e - 1] != b'/' {
-            return e;
-        }
-        e -= 1;
+    let mut end = url.len();
+    while 0 < end && url[end - 1] == b'/' {
+        end -= 1;
     }
-    e
+    end
 }

@@ -33,10 +33,6 @@ lengthened_on : (n k v w : ℕ) → v + suc k ≤ w → lengthened (lengthened n
 lengthened_on zero k v w h = omega (arith, lengthened_le k v)
 lengthened_on (suc n) k v w h = omega (arith, lengthened_le (suc n + suc k) v)
 
-holder-length : (dir path : List ℕ) (i : Bool) → length (holder dir path i) ≤ length path + length dir
-holder-length dir path true = omega arith
-holder-length dir path false = omega arith
-
 -- a cursor has passed the parts that make up a text of n bytes
 pub record Measured (dir path : List ℕ) (n : ℕ) (c : PathCursor) : Type 0 where
   pub made : List ℕ

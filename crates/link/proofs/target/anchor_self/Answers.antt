@@ -1,31 +1,17 @@
 -- `target::anchor_self` meets its contract. Assumes nothing.
 use native.Mathlib.Omega.{arith}
-use mathlib.Core.Path.{sym, ◌∙◌}
-use lib.Seq.{length-take-le}
-use Rattle.link.proofs.TargetLaws.{path-within, anchor_untouched, anchor_bare, anchor_host, anchor_other}
+use mathlib.Core.Path.{sym}
+use Rattle.link.proofs.TargetLaws.{anchor_untouched, anchor_bare, anchor_host, anchor_other}
 use Rattle.link.proofs.target.anchor_self.Goals as goal
 
-pub returns-then-e-target : goal.returns-then-e-target
-returns-then-e-target c =
-    let p = sym c.read_target.ensures ∙ c.in-Some.is in
-    (anchor_bare _ _ _ _ p c.if-e-target.true, omega arith)
+pub returns-in-Some : goal.returns-in-Some
+returns-in-Some c = (anchor_host _ _ _ _ (sym c.in-Some.ensures) c.if-end-target.true (sym c.if-resolves_to.ensures), omega arith)
 
-pub slice_bounds-resolves_to-end : goal.slice_bounds-resolves_to-end
-slice_bounds-resolves_to-end c =
-    let p = sym c.read_target.ensures ∙ c.in-Some.is in
-    sym (length-take-le _ _ (path-within _ _ p))
+pub returns-in_default : goal.returns-in_default
+returns-in_default c = (anchor_other _ _ _ _ (sym c.in-Some.ensures) (sym c.if-resolves_to.ensures), omega arith)
 
-pub returns-then-resolves_to : goal.returns-then-resolves_to
-returns-then-resolves_to c =
-    let p = sym c.read_target.ensures ∙ c.in-Some.is in
-    let q = sym c.resolves_to.ensures ∙ c.if-resolves_to.true in
-    (anchor_host _ _ _ _ p c.if-e-target.false q, path-within _ _ p)
+pub returns-in_default-2 : goal.returns-in_default-2
+returns-in_default-2 c = (anchor_bare _ _ _ _ (sym c.in-Some.ensures) c.if-end-target.false, omega arith)
 
-pub returns-in-None : goal.returns-in-None
-returns-in-None c = (anchor_untouched _ _ _ (sym c.read_target.ensures ∙ c.in-None.is), omega arith)
-
-pub returns-else-resolves_to : goal.returns-else-resolves_to
-returns-else-resolves_to c =
-    let p = sym c.read_target.ensures ∙ c.in-Some.is in
-    let q = sym c.resolves_to.ensures ∙ c.if-resolves_to.false in
-    (anchor_other _ _ _ _ p q, omega arith)
+pub returns-in_default-3 : goal.returns-in_default-3
+returns-in_default-3 c = (anchor_untouched _ _ _ (sym c.in_default.ensures), omega arith)

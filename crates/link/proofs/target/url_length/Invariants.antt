@@ -6,8 +6,8 @@ use Rattle.text.specs.Bytes.{after_last}
 use Rattle.link.specs.Target.{not_slash}
 use Rattle.link.proofs.target.url_length.Given as goal
 
-abbrev pub invariant-loop-e : goal.invariant-loop-e
-invariant-loop-e l = (l.e ≤ length l.url) × (after_last not_slash (take l.e l.url) ≡ after_last not_slash l.url)
+abbrev pub invariant-loop-end : goal.invariant-loop-end
+invariant-loop-end l = (l.end ≤ length l.url) × (after_last not_slash (take l.end l.url) ≡ after_last not_slash l.url)
 
-abbrev pub decreases-loop-e : goal.decreases-loop-e
-decreases-loop-e l = l.e
+abbrev pub decreases-loop-end : goal.decreases-loop-end
+decreases-loop-end l = l.end
