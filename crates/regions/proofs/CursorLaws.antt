@@ -1,5 +1,5 @@
 -- Cursors: the regions that are left behind one, where it stands, and the lines between a cursor and the next region. Assumes nothing.
-use Rattle.std.specs.Prelude.{Option, Some, None}
+use Rattle.std.specs.Prelude.{Option, Some, None, is_some}
 use Prim.Native.Nat.{ℕ, zero, suc, ◌+◌, ◌-◌, ◌≤◌, ◌<◌}
 use native.Mathlib.Omega.{arith}
 use mathlib.Core.Path.{◌≡◌, refl, sym, ap, ◌∙◌}
@@ -20,7 +20,7 @@ use Rattle.text.proofs.LedLaws.{join-split}
 use Rattle.marker.specs.declared.line.Kind.{Kind}
 use Rattle.marker.specs.declared.line.Kind.TheVariants.{Plain, Fence, Fault, Closes, Opens, Spans}
 use Rattle.marker.proofs.MarkerLaws.{kind-closes}
-use Rattle.scan.specs.Scan.{is_open, closed_by, events_of, after, kind_at, scan_from, regions_of}
+use Rattle.scan.specs.Scan.{closed_by, events_of, after, kind_at, scan_from, regions_of}
 use Rattle.scan.specs.Regions.{regions_from}
 use Rattle.scan.specs.declared.event.Region.{Region}
 use Rattle.scan.specs.declared.region.Cursor.{Cursor}
@@ -43,7 +43,7 @@ module _ (s : List ℕ) (n o : ℕ) where
   abbrev Rest : State → List Region
   Rest st = regions_of (scan_from st (n + 1) (lines_from (o + line_next (drop o s)) (drop (o + line_next (drop o s)) s)))
 
-  closed : (st : State) (r : Option Opener) → st.fence ≡ false → is_open r ≡ true
+  closed : (st : State) (r : Option Opener) → st.fence ≡ false → is_some r ≡ true
       → Behind s (regions_of (closed_by n o r) ++ Rest (record { fence = st.fence; region = None }))
   unfolding regions_of
   closed st None f e = absurd (false≢true e)
@@ -56,7 +56,7 @@ module _ (s : List ℕ) (n o : ℕ) where
   turned ih l st Fence e = ih (after st n o Fence)
   turned ih l st (Fault k) e = ih st
   turned ih l st Closes e =
-      let h = kind-closes st.fence (is_open st.region) o l (sym e) in
+      let h = kind-closes st.fence (is_some st.region) o l (sym e) in
       closed st st.region h.0 h.1
   turned ih l st (Opens b d peer) e = ih (after st n o (Opens b d peer))
   turned ih l st (Spans i) e = rw (line-none st n o l (Spans i) (λ q. let z : ◌≡◌ {A = ℕ} 0 1 = cc in omega arith)) (ih st)

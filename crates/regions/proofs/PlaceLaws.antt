@@ -1,5 +1,5 @@
 -- Where the lines of a text start, and the regions of a scan in the order of their lines and places. Assumes nothing.
-use Rattle.std.specs.Prelude.{Option, Some, None}
+use Rattle.std.specs.Prelude.{Option, Some, None, is_some}
 use Prim.Native.Nat.{ℕ, zero, suc, ◌+◌, ◌-◌, ◌≤◌, ◌<◌}
 use native.Mathlib.Omega.{arith}
 use mathlib.Core.Path.{◌≡◌, refl, ap}
@@ -19,7 +19,7 @@ use Rattle.text.proofs.SplitLaws.{split_step, split-some}
 use Rattle.text.proofs.LineLaws.{lines_at, line-next, line-last, line-within}
 use Rattle.fence.specs.Fences.{is_fence}
 use Rattle.marker.specs.Marker.{OPEN, SPEC-END, CLOSE, OPEN-FRAGMENT, path_of, named_of, rest_of, alone_of, fragment_of, fragment_kind, marked_kind, kind_of}
-use Rattle.scan.specs.Scan.{is_open, closed_by, events_of, after, kind_at, begin, scan_from, regions_of}
+use Rattle.scan.specs.Scan.{closed_by, events_of, after, kind_at, begin, scan_from, regions_of}
 use Rattle.scan.specs.declared.event.Region.{Region}
 use Rattle.marker.specs.declared.line.Kind.{Kind}
 use Rattle.marker.specs.declared.line.Kind.TheVariants.{Plain, Fence, Fault, Closes, Opens, Spans}
@@ -231,7 +231,7 @@ scan-line s n o a st m p hm hp q ih = go (ltb o (length s)) refl
         let hx : o < x = omega (arith, (line-within (drop o s)).1.1 (omega (arith, length-drop o s))) in
         let hl : o + length l ≤ x = omega (arith, (line-within (drop o s)).0, part_length s o (o + line_end (drop o s))) in
         rw (lines_at s o (o + line_end (drop o s)) x h refl refl, regions_append (events_of st n o l (kind_at st o l)) (scan_from (after st n o (kind_at st o l)) (n + 1) (lines_from x (drop x s))))
-        (turned s n o x (a h) hx (ih (a h) hx) m p hm hp l st (kind_at st o l) (kind-path st.fence (is_open st.region) o l x hl) q)
+        (turned s n o x (a h) hx (ih (a h) hx) m p hm hp l st (kind_at st o l) (kind-path st.fence (is_some st.region) o l x hl) q)
 
 scan_fuel : (f : ℕ) (s : List ℕ) (n o : ℕ) → length s - o ≤ f → (o < length s → Starts s n o) → (st : State) (m p : ℕ) → m < n → p ≤ o → Opened s m p n o st.region
     → Ordered s m p (regions_of (scan_from st n (lines_from o (drop o s))))

@@ -1,5 +1,5 @@
 -- Laws of `specs/Regions.antt`: the regions among what a scan finds, line by line. Assumes nothing.
-use Rattle.std.specs.Prelude.{Option, Some, None}
+use Rattle.std.specs.Prelude.{Option, Some, None, is_some}
 use Prim.Native.Nat.{ℕ, ◌+◌, ◌≤◌}
 use native.Mathlib.Omega.{arith}
 use mathlib.Core.Path.{◌≡◌, refl, sym, ap, ◌∙◌}
@@ -8,7 +8,7 @@ use mathlib.Core.List.{List, [], ◌∷◌, ◌++◌, map}
 use lib.ListN.{length, drop}
 use Rattle.text.specs.Bytes.{part}
 use Rattle.text.specs.Lines.{lines_from}
-use Rattle.scan.specs.Scan.{read_line, stop_events, span_events, events_of, after, kind_at, is_open, last_of, scan_from, regions_of}
+use Rattle.scan.specs.Scan.{read_line, stop_events, span_events, events_of, after, kind_at, last_of, scan_from, regions_of}
 use Rattle.scan.specs.Regions.{regions_from, FoundRegion, closed_at}
 use Rattle.scan.specs.Skip.{Sought}
 use Rattle.scan.specs.declared.event.Event.{Event}
@@ -20,6 +20,7 @@ use Rattle.marker.specs.declared.line.Kind.TheVariants.{Plain, Fence, Fault, Clo
 use Rattle.scan.specs.declared.region.Cursor.{Cursor}
 use Rattle.marker.specs.declared.span.Stop.{Stop}
 use Rattle.marker.specs.declared.span.Stop.TheVariants.{AtProblem, AtSpanEnd}
+use Rattle.scan.specs.declared.state.Opener.{Opener}
 use Rattle.scan.specs.declared.state.State.{State}
 use Rattle.marker.proofs.MarkerLaws.{kind-closes}
 use Rattle.scan.proofs.ScanLaws.{sought_line, sought_end}
@@ -55,9 +56,9 @@ last_none (Some g) true k = refl
 last_none (Some g) false k = refl
 
 -- a region is closed only where one is open, outside a fence
-kind-at-closes : (st : State) (o : ℕ) (l : List ℕ) → kind_at st o l ≡ Closes → (st.fence ≡ false) × (is_open st.region ≡ true)
+kind-at-closes : (st : State) (o : ℕ) (l : List ℕ) → kind_at st o l ≡ Closes → (st.fence ≡ false) × (is_some st.region ≡ true)
 unfolding kind_at
-kind-at-closes st o l h = kind-closes st.fence (is_open st.region) o l h
+kind-at-closes st o l h = kind-closes st.fence (is_some st.region) o l h
 
 -- one turn of the search: the regions from place a on are rs
 module _ (s : List ℕ) (a n k b e x : ℕ) (st : State) (rs : List Region) (i : regions_of (scan_from st (n + 1) (lines_from a (drop a s))) ≡ rs) where
@@ -80,7 +81,7 @@ module _ (s : List ℕ) (a n k b e x : ℕ) (st : State) (rs : List Region) (i :
   unfolding events_of after regions_of
   region_found from q f h c = go st.region refl
     where
-      w : (st.fence ≡ false) × (is_open st.region ≡ true)
+      w : (st.fence ≡ false) × (is_some st.region ≡ true)
       w = kind-at-closes st b (part b e s) (sym c)
 
       go : (region : Option Opener) → st.region ≡ region → FoundRegion s from (closed_at region k b x)

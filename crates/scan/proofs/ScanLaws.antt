@@ -1,5 +1,5 @@
 -- Laws of `specs/Scan.antt`: lines that are passed over, a turn of the scan, the reading of a line, and the regions. Assumes nothing.
-use Rattle.std.specs.Prelude.{Some, None}
+use Rattle.std.specs.Prelude.{Some, None, is_some}
 use Prim.Native.Nat.{ℕ, zero, suc, ◌+◌, ◌-◌, ◌≤◌, ◌<◌}
 use native.Mathlib.Nat.{add-zero}
 use native.Mathlib.Omega.{arith}
@@ -16,7 +16,7 @@ use Rattle.text.proofs.BytesLaws.{rest, rest-length}
 use Rattle.text.proofs.PatternLaws.{and_left, and_right}
 use Rattle.fence.specs.Fences.{is_fence}
 use Rattle.marker.specs.Marker.{OPEN, next_mark, first_of}
-use Rattle.scan.specs.Scan.{Reading, read_by, read_from, read_line, then_read, events_of, after, kind_at, is_open, last_of, scan_from, span_of, stopped}
+use Rattle.scan.specs.Scan.{Reading, read_by, read_from, read_line, then_read, events_of, after, kind_at, last_of, scan_from, span_of, stopped}
 use Rattle.scan.specs.Skip.{all_plain, Sought}
 use Rattle.marker.specs.declared.line.Kind.TheVariants.{Spans}
 use Rattle.marker.specs.declared.span.Mark.{Mark}
@@ -29,7 +29,7 @@ use Rattle.marker.proofs.MarkerLaws.{kind-plain, kind-spans, mark-within}
 plain-line : (st : State) (n : ℕ) (l : Line) (ls : List Line) → is_fence l.bytes ≡ false → contains OPEN l.bytes ≡ false
     → scan_from st n (l ∷ ls) ≡ scan_from st (n + 1) ls
 unfolding scan_from kind_at events_of after
-plain-line st n l ls h k = rw (kind-plain st.fence (is_open st.region) l.start l.bytes h k)
+plain-line st n l ls h k = rw (kind-plain st.fence (is_some st.region) l.start l.bytes h k)
 
 pub scan_skip : (ls rest : List Line) (st : State) (n : ℕ) → all_plain ls ≡ true → scan_from st n (ls ++ rest) ≡ scan_from st (n + length ls) rest
 unfolding all_plain
@@ -98,7 +98,7 @@ read_next l n o i = read_enough (length l) n (o + i) (drop i l) (omega (arith, l
 -- the first marker of a line lies in it
 pub kind-within : (st : State) (o i : ℕ) (l : List ℕ) → kind_at st o l ≡ Spans i → i ≤ length l
 unfolding kind_at
-kind-within st o i l h = kind-spans st.fence (is_open st.region) o i l h
+kind-within st o i l h = kind-spans st.fence (is_some st.region) o i l h
 
 -- the marker at place i of line n, l: a span, a problem, or none
 module _ (l : List ℕ) (n o i : ℕ) where

@@ -3,6 +3,7 @@ use Rattle.std.specs.Prelude.{ℕ, ◌+◌, ◌≤◌, ◌<◌, ◌≡◌, List,
 use Rattle.text.specs.Lines.{lines_from}
 use Rattle.scan.specs.Scan.{begin, scan_from, regions_of, region_of}
 use Rattle.scan.specs.declared.event.Region.{Region}
+use Rattle.scan.specs.declared.state.Opener.{Opener}
 use Rattle.scan.specs.declared.region.Cursor.{Cursor}
 
 -- the regions that a scan finds from a cursor on, in order; those of the whole text from place 0, line 0

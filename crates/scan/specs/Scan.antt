@@ -1,5 +1,5 @@
 -- Document 01, "Marker scan", for a whole text: what is open at a line, what a line gives, and all that a scan finds.
-use Rattle.std.specs.Prelude.{ℕ, zero, suc, ◌+◌, ◌-◌, Bool, true, false, cond, not, List, [], ◌∷◌, ◌++◌, map, length, drop, Option, Some, None}
+use Rattle.std.specs.Prelude.{ℕ, zero, suc, ◌+◌, ◌-◌, false, cond, not, List, [], ◌∷◌, ◌++◌, map, length, drop, Option, Some, None, is_some}
 use Rattle.text.specs.Lines.{Line, lines}
 use Rattle.marker.specs.Marker.{kind_of, next_mark}
 use Rattle.marker.specs.declared.line.Kind.{Kind}
@@ -82,12 +82,8 @@ after st n o (Opens a e peer) = record {
 }
 after st n o (Spans i) = st
 
-abbrev pub is_open : Option Opener → Bool
-is_open None = false
-is_open (Some g) = true
-
 unfoldable pub kind_at : State → ℕ → List ℕ → Kind
-kind_at st o l = kind_of st.fence (is_open st.region) o l
+kind_at st o l = kind_of st.fence (is_some st.region) o l
 
 -- "Problems at the end: 4 (unclosed region), then 5 (unclosed fence, at the last line)."
 abbrev pub unclosed : Option Opener → List Event

@@ -3,7 +3,7 @@ ghost use Rattle.std.specs.Prelude.{◌≡◌, ◌≤◌, length};
 ghost use Rattle.scan.specs.Regions.{FoundRegion, closed_at};
 
 use crate::event::Region;
-use crate::seek::LineAt;
+use crate::state::Opener;
 use crate::{seek, state};
 use marker::line::Kind;
 
@@ -18,10 +18,8 @@ pub struct Cursor {
 fn closed_at(region: Option<Opener>, n: usize, o: usize, next: usize) -> Option<(Region, Cursor)>
     ensures { result ≡ closed_at region n o next }
 {
-    match region {
-        None => None,
-        Some(g) => Some((state::closed(g, n, o), Cursor { at: next, line: n })),
-    }
+    let closed = state::closed(region?, n, o);
+    Some((closed, Cursor { at: next, line: n }))
 }
 
 // The next whole region from a cursor on.
@@ -29,32 +27,18 @@ pub fn next_region(s: &[u8], from: Cursor) -> Option<(Region, Cursor)>
     requires { (from.at ≤ length s.now) × (from.line ≤ from.at) }
     ensures { FoundRegion s.now from result }
 {
-    let mut st = state::begin();
-    let mut a = from.at;
-    let mut n = from.line;
-    loop {
-        let l = seek::next_line(s, a, n);
-        match l {
-            Some(
-                LineAt {
-                    number,
-                    start,
-                    end,
-                    next,
-                },
-            ) => {
-                let kind = state::kind_at(st, start, &s[start..end]);
-                if let Kind::Closes = kind {
-                    let region = st.region;
-                    return closed_at(region, number, start, next);
-                }
-                st = state::after(st, number, start, kind);
-                a = next;
-                n = number;
-            }
-            None => {
-                return None;
-            }
+    let mut state = state::begin();
+    let mut cursor = from;
+    while let Some(line) = seek::next_line(s, cursor.at, cursor.line) {
+        let kind = state::kind_at(state, line.start, &s[line.start..line.end]);
+        if let Kind::Closes = kind {
+            return closed_at(state.region, line.number, line.start, line.next);
         }
+        state = state::after(state, line.number, line.start, kind);
+        cursor = Cursor {
+            at: line.next,
+            line: line.number,
+        };
     }
+    None
 }

@@ -5,7 +5,7 @@ ghost use Rattle.scan.specs.Skip.{any_three, trace, hint, Sought};
 
 use text::{bytes, lines};
 
-// A line: its number, where it starts and ends, and where the next one starts. Or the text's end.
+// A line: its number, where it starts and ends, and where the next one starts.
 #[derive(Clone, Copy)]
 pub struct LineAt {
     pub number: usize,
@@ -23,7 +23,7 @@ fn has_trace(s: &[u8]) -> bool
     while 2 < s.len() - j {
         let x = s[j];
         let z = s[j + 2];
-        hit = hit | (((x == b'`') | (x == b'~')) | ((x ^ z) == 0x76));
+        hit |= (((x == b'`') | (x == b'~')) | ((x ^ z) == 0x76));
         j += 1;
     }
     hit
@@ -39,8 +39,8 @@ fn has_hint(s: &[u8]) -> bool
         let x = s[j];
         let y = s[j + 1];
         let z = s[j + 2];
-        hit = hit
-            | ((x == y) & (((x == z) & ((x == b'`') | (x == b'~'))) | ((x == b'-') & (z == b'['))));
+        hit |= ((x == y)
+            & (((x == z) & ((x == b'`') | (x == b'~'))) | ((x == b'-') & (z == b'['))));
         j += 1;
     }
     hit
@@ -50,10 +50,7 @@ fn has_hint(s: &[u8]) -> bool
 fn block_has_hint(s: &[u8]) -> bool
     ensures { result ≡ any_three hint s.now }
 {
-    if has_trace(s) {
-        return has_hint(s);
-    }
-    false
+    has_trace(s) && has_hint(s)
 }
 
 // A place from a place on up to which no hint stands: the start of a block that has one, or the length.

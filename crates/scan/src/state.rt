@@ -1,6 +1,6 @@
 // What is open at a line of a scan.
 ghost use Rattle.std.specs.Prelude.{◌≡◌, ◌+◌, ◌<◌, ◌^◌, length};
-ghost use Rattle.scan.specs.Scan.{begin as beginning, is_open, kind_at, after as after_kind, region_of};
+ghost use Rattle.scan.specs.Scan.{begin as beginning, kind_at, after as after_kind, region_of};
 
 use crate::event::{LineStart, Region};
 use marker::line;
@@ -31,51 +31,38 @@ pub fn begin() -> State
     }
 }
 
-fn is_open(region: Option<Opener>) -> bool
-    ensures { result ≡ is_open region }
-{
-    match region {
-        None => false,
-        Some(_) => true,
-    }
-}
-
 // What a line at place o is.
+#[tactic(auto, unfolding(crate::specs::Scan::kind_at))]
 pub fn kind_at(state: State, o: usize, line: &[u8]) -> Kind
     requires { o + length line.now < 2 ^ 64 }
     ensures { result ≡ kind_at state o line.now }
 {
-    let region = state.region;
-    line::kind_of(line, o, state.fence, is_open(region))
+    line::kind_of(line, o, state.fence, state.region.is_some())
 }
 
 // The state after line n, at place o and of a kind.
+#[tactic(auto, unfolding(crate::specs::Scan::after))]
 pub fn after(state: State, n: usize, o: usize, kind: Kind) -> State
     ensures { result ≡ after_kind state n o kind }
 {
     match kind {
-        Kind::Plain => state,
-        Kind::Fence => {
-            let region = state.region;
-            State {
-                fence: !state.fence,
-                region,
-            }
-        }
-        Kind::Fault(_) => state,
+        Kind::Plain | Kind::Fault(_) | Kind::Spans(_) => state,
+        Kind::Fence => State {
+            fence: !state.fence,
+            ..state
+        },
         Kind::Closes => State {
-            fence: state.fence,
             region: None,
+            ..state
         },
         Kind::Opens { start, end, peer } => State {
-            fence: state.fence,
             region: Some(Opener {
                 marker: LineStart { line: n, at: o },
                 path: Part { start, end },
                 peer,
             }),
+            ..state
         },
-        Kind::Spans(_) => state,
     }
 }
 
@@ -83,12 +70,10 @@ pub fn after(state: State, n: usize, o: usize, kind: Kind) -> State
 pub fn closed(opener: Opener, n: usize, o: usize) -> Region
     ensures { result ≡ region_of n o opener }
 {
-    let marker = opener.marker;
-    let path = opener.path;
     Region {
-        opener: marker,
+        opener: opener.marker,
         closer: LineStart { line: n, at: o },
-        path,
+        path: opener.path,
         peer: opener.peer,
     }
 }

@@ -1,5 +1,5 @@
 -- Laws of `specs/Surveys.antt`: what a survey gathers is what `scanned` says; a turn of the survey; the text's end. Assumes nothing.
-use Rattle.std.specs.Prelude.{Option, Some, None, Result, Ok, Err}
+use Rattle.std.specs.Prelude.{Option, Some, None, Result, Ok, Err, is_some}
 use Prim.Native.Nat.{ℕ, zero, suc, ◌+◌, ◌-◌, ◌<◌}
 use native.Mathlib.Omega.{arith}
 use mathlib.Core.Path.{◌≡◌, refl, sym, ap, ◌∙◌, subst}
@@ -25,7 +25,7 @@ use Rattle.marker.specs.declared.span.Mark.TheVariants.{Marked, Problem, End}
 use Rattle.marker.specs.declared.span.Stop.{Stop}
 use Rattle.marker.specs.declared.span.Stop.TheVariants.{AtProblem, AtSpanEnd}
 use Rattle.marker.proofs.MarkerLaws.{kind-closes}
-use Rattle.scan.specs.Scan.{read_by, read_from, read_line, stop_events, span_events, closed_by, events_of, after, kind_at, is_open, last_of, scan_from, scan, regions_of}
+use Rattle.scan.specs.Scan.{read_by, read_from, read_line, stop_events, span_events, closed_by, events_of, after, kind_at, last_of, scan_from, scan, regions_of}
 use Rattle.scan.specs.Skip.{Sought}
 use Rattle.scan.specs.declared.event.Event.{Event}
 use Rattle.scan.specs.declared.event.Event.TheVariants.{OfSpan, OfRegion, OfProblem}
@@ -155,11 +155,11 @@ unfolding events_of kind_at span_events read_line survey_from
 line_over any f st n o l Plain es e x y = rw (or-false any)
 line_over any f st n o l Fence es e x y = rw (or-false any)
 line_over any f st n o l (Fault k) es e x y =
-    let h : k < 4 = subst LowKind (sym e) (low_kind st.fence (is_open st.region) o l) in
+    let h : k < 4 = subst LowKind (sym e) (low_kind st.fence (is_some st.region) o l) in
     passed_over any f n k es x y (λ z. omega arith) ∙ rw (or-false any)
-line_over any f st n o l Closes es e x y = rw (or-true any) (go st.region (kind-closes st.fence (is_open st.region) o l (sym e)).1)
+line_over any f st n o l Closes es e x y = rw (or-true any) (go st.region (kind-closes st.fence (is_some st.region) o l (sym e)).1)
   where
-    go : (r : Option Opener) → is_open r ≡ true → survey_from any f (closed_by n o r ++ es) ≡ survey_from true f es
+    go : (r : Option Opener) → is_some r ≡ true → survey_from any f (closed_by n o r ++ es) ≡ survey_from true f es
     go None q = absurd (false≢true q)
     go (Some g) q = refl
 line_over any f st n o l (Opens a d peer) es e x y = rw (or-false any)

@@ -6,12 +6,12 @@ use Rattle.text.specs.Lines.{lines_from}
 use Rattle.scan.specs.Scan.{begin, scan_from, regions_of}
 use Rattle.scan.proofs.region.next_region.Given as goal
 
-abbrev pub invariant-loop-number : goal.invariant-loop-number
-invariant-loop-number l =
-    (l.initial.a ≤ l.a)
-    × ((l.a ≤ length l.s)
-    × ((l.n ≤ l.a)
-    × (regions_of (scan_from l.st (l.n + 1) (lines_from l.a (drop l.a l.s))) ≡ regions_of (scan_from begin (l.initial.n + 1) (lines_from l.initial.a (drop l.initial.a l.s))))))
+abbrev pub invariant-loop-line : goal.invariant-loop-line
+invariant-loop-line l =
+    (l.fn.from.at ≤ l.cursor.at)
+    × ((l.cursor.at ≤ length l.s)
+    × ((l.cursor.line ≤ l.cursor.at)
+    × (regions_of (scan_from l.state (l.cursor.line + 1) (lines_from l.cursor.at (drop l.cursor.at l.s))) ≡ regions_of (scan_from begin (l.fn.from.line + 1) (lines_from l.fn.from.at (drop l.fn.from.at l.s))))))
 
-abbrev pub decreases-loop-number : goal.decreases-loop-number
-decreases-loop-number l = length l.s - l.a
+abbrev pub decreases-loop-line : goal.decreases-loop-line
+decreases-loop-line l = length l.s - l.cursor.at

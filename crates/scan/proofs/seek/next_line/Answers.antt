@@ -10,44 +10,14 @@ use Rattle.text.proofs.BytesLaws.{part_length, last_block}
 use Rattle.scan.proofs.SkipLaws.{passed_all, passed-some}
 use Rattle.scan.proofs.seek.next_line.Goals as goal
 
-pub skip_blocks-p-requires : goal.skip_blocks-p-requires
-skip_blocks-p-requires c = omega arith
-
 pub returns-then-p-s : goal.returns-then-p-s
 returns-then-p-s c = let a = c.args in let k = c.skip_blocks-p in
     passed_all a.s.now a.a k.result c.if-p-s.true k.ensures.1.1
-
-pub slice_bounds-after_last-count : goal.slice_bounds-after_last-count
-slice_bounds-after_last-count c = omega arith
-
-pub slice_bounds-after_last-start : goal.slice_bounds-after_last-start
-slice_bounds-after_last-start c = omega arith
-
-pub slice_bounds-after_last-end : goal.slice_bounds-after_last-end
-slice_bounds-after_last-end c = omega arith
-
-pub overflow_add-b : goal.overflow_add-b
-overflow_add-b c = omega (arith, part_length c.args.s.now c.args.a c.skip_blocks-p.result)
 
 pub line-l-requires : goal.line-l-requires
 line-l-requires c = let a = c.args in let k = c.skip_blocks-p in
     let m = part_length a.s.now a.a k.result in
     (omega arith, (k.ensures.1.0, last_block (is LF) a.s.now a.a k.result _ k.ensures.0 k.ensures.1.0 (ap (λ (r : ℕ). a.a + r) c.after_last.ensures.0)))
-
-pub slice_bounds-count_byte-count : goal.slice_bounds-count_byte-count
-slice_bounds-count_byte-count c = omega arith
-
-pub slice_bounds-count_byte-start : goal.slice_bounds-count_byte-start
-slice_bounds-count_byte-start c = omega arith
-
-pub slice_bounds-count_byte-end : goal.slice_bounds-count_byte-end
-slice_bounds-count_byte-end c = omega arith
-
-pub overflow_add-result : goal.overflow_add-result
-overflow_add-result c = omega (arith, part_length c.args.s.now c.args.a (c.args.a + c.after_last.result))
-
-pub overflow_add-result-2 : goal.overflow_add-result-2
-overflow_add-result-2 c = omega (arith, part_length c.args.s.now c.args.a (c.args.a + c.after_last.result))
 
 pub returns : goal.returns
 returns c =

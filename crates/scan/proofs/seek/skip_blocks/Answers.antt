@@ -12,44 +12,14 @@ use Rattle.scan.proofs.seek.skip_blocks.Goals as goal
 pub loop-i-init : goal.loop-i-init
 loop-i-init c = (omega arith, (omega arith, three-start hint c.args.s.now c.args.from))
 
-pub overflow_sub-s : goal.overflow_sub-s
-overflow_sub-s c = omega arith
-
-pub overflow_add-e : goal.overflow_add-e
-overflow_add-e c = omega arith
-
-pub slice_bounds-block_has_hint-count : goal.slice_bounds-block_has_hint-count
-slice_bounds-block_has_hint-count c = omega arith
-
-pub slice_bounds-block_has_hint-start : goal.slice_bounds-block_has_hint-start
-slice_bounds-block_has_hint-start c = omega arith
-
-pub slice_bounds-block_has_hint-end : goal.slice_bounds-block_has_hint-end
-slice_bounds-block_has_hint-end c = omega arith
-
 pub returns-then-block_has_hint : goal.returns-then-block_has_hint
 returns-then-block_has_hint c =
     let a = c.args in
     let l = c.loop-i in
     (omega arith, (omega arith, three-within hint a.s.now a.from a.from l.i (l.i + 2) (omega arith) (omega arith) (omega arith) l.invariant.1.1))
 
-pub overflow_add-i : goal.overflow_add-i
-overflow_add-i c = omega arith
-
-pub loop-i-smaller : goal.loop-i-smaller
-loop-i-smaller c = omega arith
-
 pub loop-i-preserved : goal.loop-i-preserved
 loop-i-preserved c = (omega arith, (omega arith, three_block hint c.args.s.now c.args.from c.loop-i.i 64 (omega arith) c.loop-i.invariant.1.1 (sym c.block_has_hint.ensures ∙ c.if-block_has_hint.false)))
-
-pub slice_bounds-has_hint-count : goal.slice_bounds-has_hint-count
-slice_bounds-has_hint-count c = omega arith
-
-pub slice_bounds-has_hint-start : goal.slice_bounds-has_hint-start
-slice_bounds-has_hint-start c = omega arith
-
-pub slice_bounds-has_hint-end : goal.slice_bounds-has_hint-end
-slice_bounds-has_hint-end c = omega arith
 
 pub returns-then-has_hint : goal.returns-then-has_hint
 returns-then-has_hint c =
