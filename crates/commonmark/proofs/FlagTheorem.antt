@@ -1,10 +1,9 @@
 -- Where no named departure holds, and only there, the scan is in a fence behind a line just where CommonMark is. Assumes nothing.
-use Rattle.std.specs.Prelude.{Option, Some, None}
+use Rattle.std.specs.Prelude.{Option, Some, None, is_some}
 use Prim.Native.Nat.{ℕ, ◌≤◌}
 use mathlib.Core.Path.{◌≡◌, refl, sym, ◌∙◌, ap}
 use mathlib.Core.Bool.{Bool, true, false, cond, not, ◌&&◌, ◌||◌, false≢true}
 use mathlib.Core.List.{List, [], ◌∷◌, ◌++◌}
-use mathlib.Core.Option.{Option, none, some}
 use borrow.Author.Tests.{leb-true}
 use lib.Dec.{leb}
 use Rattle.marker.specs.declared.line.Fragment.{Fragment}
@@ -18,7 +17,7 @@ use Rattle.marker.specs.Marker.{OPEN, CLOSE, OPEN-FRAGMENT, fragment_of, fragmen
 use Rattle.marker.specs.declared.line.Kind.{Kind}
 use Rattle.marker.specs.declared.line.Kind.TheVariants.{Plain, Fence, Fault, Closes, Opens, Spans}
 use Rattle.heading.specs.Walk.{closes, step_after, outside_after, comment_after}
-use Rattle.scan.specs.Scan.{after, kind_at, is_open as isOpenRegion}
+use Rattle.scan.specs.Scan.{after, kind_at}
 use Rattle.scan.specs.declared.state.State.{State}
 use Rattle.commonmark.specs.Strip.{ended, indent}
 use Rattle.commonmark.specs.Fenced.{Mark, backtick, tilde, CodeFence, unindented, run, opens_with, code_opener, closes_code, code_after}
@@ -70,7 +69,7 @@ other_marked false inside o l (Some i) = go (inside && equals CLOSE (trim l))
 flag : (st : State) (n at : ℕ) (l : List ℕ) (b : Bool) → is_fence l ≡ b → (after st n at (kind_at st at l)).fence ≡ cond b (not st.fence) st.fence
 unfolding kind_at kind_of after
 flag st n at l true e = rw e
-flag st n at l false e = rw e (kept st n at (marked_kind st.fence (isOpenRegion st.region) at l (find OPEN l)) (other_marked st.fence (isOpenRegion st.region) at l (find OPEN l)))
+flag st n at l false e = rw e (kept st n at (marked_kind st.fence (is_some st.region) at l (find OPEN l)) (other_marked st.fence (is_some st.region) at l (find OPEN l)))
 
 -- a fence of either kind
 either_kind : (l : List ℕ) → is_fence l ≡ (three_of backtick l || three_of tilde l)
@@ -87,42 +86,42 @@ own backtick l h = either_kind l ∙ or_here (three_of backtick l) (three_of til
 own tilde l h = either_kind l ∙ rw h
 
 code_opens : (o : Option CodeFence) → opens (as_fence o) ≡ is_open o
-code_opens none = refl
-code_opens (some f) = mark-opens f.mark
+code_opens None = refl
+code_opens (Some f) = mark-opens f.mark
 
 same : (o : Option CodeFence) (st : State) (n at : ℕ) (l : List ℕ) → IsFence o → st.fence ≡ is_open o → scan_departs o l ≡ false → cond (is_fence l) (not st.fence) st.fence ≡ is_open (code_after o l)
 unfolding scan_departs
-same none st n at l h e d = go (is_fence l) ∙ (either_kind l ∙ (sym (seen_opens l) ∙ (ap opens (opened l (three_of backtick l) (three_of tilde l) refl refl (or_right (other_kind_closes none l) _ d)) ∙ code_opens (code_opener l))))
+same None st n at l h e d = go (is_fence l) ∙ (either_kind l ∙ (sym (seen_opens l) ∙ (ap opens (opened l (three_of backtick l) (three_of tilde l) refl refl (or_right (other_kind_closes None l) _ d)) ∙ code_opens (code_opener l))))
   where
     go : (b : Bool) → cond b (not st.fence) st.fence ≡ b
     go true = rw e
     go false = e
-same (some f) st n at l h e d = rw (own f.mark l (or_left (other_kind_closes (some f) l) _ d)) (go (three_of f.mark l) (closed f l (three_of f.mark l) refl h (or_right (other_kind_closes (some f) l) _ d)))
+same (Some f) st n at l h e d = rw (own f.mark l (or_left (other_kind_closes (Some f) l) _ d)) (go (three_of f.mark l) (closed f l (three_of f.mark l) refl h (or_right (other_kind_closes (Some f) l) _ d)))
   where
-    go : (b : Bool) → closes_code f l ≡ b → cond b (not st.fence) st.fence ≡ is_open (code_after (some f) l)
+    go : (b : Bool) → closes_code f l ≡ b → cond b (not st.fence) st.fence ≡ is_open (code_after (Some f) l)
     go true q = rw (e, q)
     go false q = rw (e, q)
 
 -- where a departure holds the scan sees a fence, and CommonMark none
 parts : (o : Option CodeFence) (st : State) (l : List ℕ) → st.fence ≡ is_open o → is_fence l ≡ true → IsMissed o l → cond (is_fence l) (not st.fence) st.fence ≡ is_open (code_after o l) → ⊥
-parts none st l e s m q = false≢true (sym (rw (s, e, m) at q))
-parts (some f) st l e s m q = false≢true (rw (s, e, m) at q)
+parts None st l e s m q = false≢true (sym (rw (s, e, m) at q))
+parts (Some f) st l e s m q = false≢true (rw (s, e, m) at q)
 
 mark_fence : (m : Mark) (l : List ℕ) → three_of m l ≡ true → is_fence l ≡ true
 mark_fence backtick l h = either_kind l ∙ rw h
 mark_fence tilde l h = either_kind l ∙ rw (h, not_both l h)
 
 seen_fence : (o : Option CodeFence) (l : List ℕ) → is_seen o l ≡ true → is_fence l ≡ true
-seen_fence none l h = either_kind l ∙ h
-seen_fence (some f) l h = mark_fence f.mark l h
+seen_fence None l h = either_kind l ∙ h
+seen_fence (Some f) l h = mark_fence f.mark l h
 
 own_unseen : (m : Mark) (l : List ℕ) → three_of (other_of m) l ≡ true → three_of m l ≡ false
 own_unseen backtick l h = not_both l h
 own_unseen tilde l h = one-kind l (three_of tilde l) refl h
 
 other_apart : (o : Option CodeFence) (l : List ℕ) → IsFence o → other_kind_closes o l ≡ true → (is_fence l ≡ true) × IsMissed o l
-other_apart none l h k = absurd (false≢true k)
-other_apart (some f) l h k = (mark_fence (other_of f.mark) l k, not_closing f l (own_unseen f.mark l k) h)
+other_apart None l h k = absurd (false≢true k)
+other_apart (Some f) l h k = (mark_fence (other_of f.mark) l k, not_closing f l (own_unseen f.mark l k) h)
 
 walk-apart : (o : Option CodeFence) (l : List ℕ) → IsFence o → departs o l ≡ true → (is_fence l ≡ true) × IsMissed o l
 walk-apart o l h d = let a = apart o l h d in (seen_fence o l a.seen, a.missed)
@@ -154,15 +153,15 @@ opener-long m l h = leb-true 3 (run m (unindented l)) (and_left _ _ (and_right (
 
 pub stays_fence : StaysFence
 unfolding code_opener
-stays_fence none l h = go (opens_with backtick l) (opens_with tilde l) refl refl
+stays_fence None l h = go (opens_with backtick l) (opens_with tilde l) refl refl
   where
     go : (a b : Bool) → opens_with backtick l ≡ a → opens_with tilde l ≡ b → IsFence (code_opener l)
     go true b p q = rw p (opener-long backtick l p)
     go false true p q = rw (p, q) (opener-long tilde l q)
     go false false p q = rw (p, q) tt
-stays_fence (some f) l h = go (closes_code f l)
+stays_fence (Some f) l h = go (closes_code f l)
   where
-    go : (b : Bool) → IsFence (cond b none (some f))
+    go : (b : Bool) → IsFence (cond b None (Some f))
     go true = tt
     go false = h
 

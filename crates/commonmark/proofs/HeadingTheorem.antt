@@ -1,9 +1,9 @@
 -- Our heading is CommonMark's where no named departure holds, and only there. Assumes nothing.
+use Rattle.std.specs.Prelude.{Option, Some, None}
 use Prim.Native.Nat.{ℕ, suc, ◌+◌, ◌-◌}
 use mathlib.Core.Path.{◌≡◌, refl, sym, ◌∙◌, ap}
 use mathlib.Core.Bool.{Bool, true, false, cond, not, false≢true}
 use mathlib.Core.List.{List, [], ◌∷◌, ◌++◌}
-use mathlib.Core.Option.{Option, none, some}
 use native.Mathlib.Omega.{arith}
 use borrow.Author.Tests.{eqb-true, leb-false}
 use lib.ListN.{length, drop}
@@ -31,15 +31,15 @@ text_trimmed n l =
     rw (k, d)
 
 abbrev text_of : Option Atx → List ℕ
-text_of none = []
-text_of (some h) = h.text
+text_of None = []
+text_of (Some h) = h.text
 
 -- ours, by the test of a line
-ours : (l : List ℕ) → as_atx l (heading_of l) ≡ cond (is_ours l) (heading (hashes l) (trim (behind l))) none
+ours : (l : List ℕ) → as_atx l (heading_of l) ≡ cond (is_ours l) (heading (hashes l) (trim (behind l))) None
 unfolding heading_of
 ours l = go (is_ours l)
   where
-    go : (b : Bool) → as_atx l (cond b (Heading (hashes l) (text_start (hashes l) l) (text_end (hashes l) l)) Other) ≡ cond b (heading (hashes l) (trim (behind l))) none
+    go : (b : Bool) → as_atx l (cond b (Heading (hashes l) (text_start (hashes l) l) (text_end (hashes l) l)) Other) ≡ cond b (heading (hashes l) (trim (behind l))) None
     go true = ap (heading (hashes l)) (text_trimmed (hashes l) l)
     go false = refl
 
@@ -84,11 +84,11 @@ module _ (l : List ℕ) (k : is_ours l ≡ true) where
   text_same e = our-text ∙ (ap (heading (hashes l)) e ∙ sym their-text)
 
 -- one is a heading, the other none
-none_is : (o : Option Atx) → is_heading o ≡ false → o ≡ none
-none_is none h = refl
-none_is (some a) h = absurd (false≢true (sym h))
+none_is : (o : Option Atx) → is_heading o ≡ false → o ≡ None
+none_is None h = refl
+none_is (Some a) h = absurd (false≢true (sym h))
 
-unlike : (a b : Option Atx) → a ≡ none → is_heading b ≡ true → a ≡ b → ⊥
+unlike : (a b : Option Atx) → a ≡ None → is_heading b ≡ true → a ≡ b → ⊥
 unlike a b p q e = false≢true (ap is_heading (sym p ∙ e) ∙ q)
 
 -- each departure parts the two
@@ -122,7 +122,7 @@ space_parts l e h = spaced_differs (behind l) (and_right (is_ours l) _ h) (same_
 
 -- and where none of them holds there is no other
 module _ (l : List ℕ) (d : departs l ≡ false) where
-  no-indented : leb 1 (indent l) ≡ true → atx l ≡ none
+  no-indented : leb 1 (indent l) ≡ true → atx l ≡ None
   unfolding departs
   no-indented s = let n : indented l ≡ false = search of-list in none_is (atx l) (second _ _ s n)
 
@@ -162,7 +162,7 @@ module _ (l : List ℕ) (d : departs l ≡ false) where
   unopened : is_opened l ≡ false → as_atx l (heading_of l) ≡ atx l
   unopened o = (ours l ∙ rw o) ∙ sym (go (leb 1 (indent l)) refl)
     where
-      go : (b : Bool) → leb 1 (indent l) ≡ b → atx l ≡ none
+      go : (b : Bool) → leb 1 (indent l) ≡ b → atx l ≡ None
       go true s = no-indented s
       go false s = theirs l s ∙ rw o
 

@@ -1,6 +1,5 @@
 -- CommonMark 0.31.2, 4.2: ATX headings, of a single line.
-use Rattle.std.specs.Prelude.{ℕ, zero, suc, Bool, true, cond, not, ◌&&◌, List, [], ◌∷◌, length, take, drop, get_or, leb, ltb}
-use Rattle.std.proofs.Math.Option.{Option, none, some}
+use Rattle.std.specs.Prelude.{ℕ, zero, suc, Bool, true, cond, not, ◌&&◌, List, [], ◌∷◌, length, take, drop, get_or, leb, ltb, Option, Some, None}
 use Rattle.text.specs.Bytes.{is, after_last, part}
 use Rattle.heading.specs.Walk.{hashes}
 use Rattle.heading.specs.declared.walk.LineKind.{LineKind}
@@ -12,7 +11,7 @@ pub record Atx : Type 0 where
   pub text : List ℕ
 
 abbrev pub heading : ℕ → List ℕ → Option Atx
-heading n text = some (record { level = n; text = text })
+heading n text = Some (record { level = n; text = text })
 
 -- "must be followed by spaces or tabs, or by the end of line"
 abbrev pub is_followed : List ℕ → Bool
@@ -40,13 +39,13 @@ abbrev pub atx_from : List ℕ → Option Atx
 atx_from t =
     cond ((leb 1 (hashes t) && leb (hashes t) 6) && is_followed (drop (hashes t) t))
     (heading (hashes t) (unclosed (strip (drop (hashes t) t))))
-    none
+    None
 
 unfoldable pub atx : List ℕ → Option Atx
-atx l = cond (leb (indent l) 3) (atx_from (drop (indent l) l)) none
+atx l = cond (leb (indent l) 3) (atx_from (drop (indent l) l)) None
 
 -- ours: what `heading_of` says of a line
 abbrev pub as_atx : List ℕ → LineKind → Option Atx
-as_atx l Quoted = none
+as_atx l Quoted = None
 as_atx l (Heading n a e) = heading n (part a e l)
-as_atx l Other = none
+as_atx l Other = None

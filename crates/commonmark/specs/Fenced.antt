@@ -1,6 +1,5 @@
 -- CommonMark 0.31.2, 4.5: fenced code blocks, by their lines.
-use Rattle.std.specs.Prelude.{ℕ, Bool, true, cond, not, ◌&&◌, List, drop, leb}
-use Rattle.std.proofs.Math.Option.{Option, none, some}
+use Rattle.std.specs.Prelude.{ℕ, Bool, true, cond, not, ◌&&◌, List, drop, leb, Option, Some, None}
 use Rattle.text.specs.Bytes.{is, any, first}
 use Rattle.commonmark.specs.Strip.{is_shown, indent}
 
@@ -40,9 +39,9 @@ opens_with m l = leb (indent l) 3 && (leb 3 (run m (unindented l)) && is_info m 
 
 unfoldable pub code_opener : List ℕ → Option CodeFence
 code_opener l =
-    cond (opens_with backtick l) (some (record { mark = backtick; length = run backtick (unindented l) }))
-    (cond (opens_with tilde l) (some (record { mark = tilde; length = run tilde (unindented l) }))
-    none)
+    cond (opens_with backtick l) (Some (record { mark = backtick; length = run backtick (unindented l) }))
+    (cond (opens_with tilde l) (Some (record { mark = tilde; length = run tilde (unindented l) }))
+    None)
 
 -- "of the same type as the code block began with, and with at least as many backticks or tildes as the opening code fence"; "may be preceded by up to three spaces of indentation, and may be followed only by spaces or tabs"
 unfoldable pub closes_code : CodeFence → List ℕ → Bool
@@ -51,5 +50,5 @@ closes_code f l =
 
 -- the fence that is open behind a line, where one or none was open before it
 abbrev pub code_after : Option CodeFence → List ℕ → Option CodeFence
-code_after none l = code_opener l
-code_after (some f) l = cond (closes_code f l) none (some f)
+code_after None l = code_opener l
+code_after (Some f) l = cond (closes_code f l) None (Some f)

@@ -1,6 +1,5 @@
 -- Where our fences and CommonMark's part: the named departures of docs/DIFFERENCES.md, each a test of the open fence and the line, and the theorems that there are no others and that each is one.
-use Rattle.std.specs.Prelude.{ℕ, ◌≤◌, Bool, true, false, not, ◌&&◌, ◌||◌, List, [], ◌∷◌, ◌++◌, ◌≡◌, eqb, leb, ltb, None}
-use Rattle.std.proofs.Math.Option.{Option, none, some}
+use Rattle.std.specs.Prelude.{ℕ, ◌≤◌, Bool, true, false, not, ◌&&◌, ◌||◌, List, [], ◌∷◌, ◌++◌, ◌≡◌, eqb, leb, ltb, None, Option, Some}
 use Rattle.text.specs.Bytes.{is, any}
 use Rattle.text.specs.Pattern.{bytes, starts_with}
 use Rattle.text.specs.Space.{lead, trim_start}
@@ -18,8 +17,8 @@ three_of m l = starts_with (byte_of m ∷ byte_of m ∷ byte_of m ∷ []) (trim_
 
 -- a fence that we see: outside either kind, in a fence its own
 abbrev pub is_seen : Option CodeFence → List ℕ → Bool
-is_seen none l = three_of backtick l || three_of tilde l
-is_seen (some f) l = three_of f.mark l
+is_seen None l = three_of backtick l || three_of tilde l
+is_seen (Some f) l = three_of f.mark l
 
 -- indented by four spaces or more: we open or close, CommonMark does not
 abbrev pub indented_by_four : Option CodeFence → List ℕ → Bool
@@ -31,18 +30,18 @@ other_space_before o l = is_seen o l && not (eqb (lead l) (indent l))
 
 -- a backtick in the info string: we open, CommonMark does not
 abbrev pub backtick_in_info : Option CodeFence → List ℕ → Bool
-backtick_in_info none l = three_of backtick l && any (is 0x60) (info backtick (trim_start l))
-backtick_in_info (some f) l = false
+backtick_in_info None l = three_of backtick l && any (is 0x60) (info backtick (trim_start l))
+backtick_in_info (Some f) l = false
 
 -- a closer with fewer bytes than the opener: we close, CommonMark does not
 abbrev pub shorter_closer : Option CodeFence → List ℕ → Bool
-shorter_closer none l = false
-shorter_closer (some f) l = three_of f.mark l && ltb (run f.mark (trim_start l)) f.length
+shorter_closer None l = false
+shorter_closer (Some f) l = three_of f.mark l && ltb (run f.mark (trim_start l)) f.length
 
 -- text after a closer: the same
 abbrev pub text_after_closer : Option CodeFence → List ℕ → Bool
-text_after_closer none l = false
-text_after_closer (some f) l = three_of f.mark l && any is_shown (info f.mark (trim_start l))
+text_after_closer None l = false
+text_after_closer (Some f) l = three_of f.mark l && any is_shown (info f.mark (trim_start l))
 
 -- the scan alone: a fence of the other kind closes
 abbrev pub other_of : Mark → Mark
@@ -50,8 +49,8 @@ other_of backtick = tilde
 other_of tilde = backtick
 
 abbrev pub other_kind_closes : Option CodeFence → List ℕ → Bool
-other_kind_closes none l = false
-other_kind_closes (some f) l = three_of (other_of f.mark) l
+other_kind_closes None l = false
+other_kind_closes (Some f) l = three_of (other_of f.mark) l
 
 -- the list for the heading walk, and that for the scan
 unfoldable pub departs : Option CodeFence → List ℕ → Bool
@@ -71,17 +70,17 @@ kind_of_mark backtick = Ticks
 kind_of_mark tilde = Tildes
 
 abbrev pub as_fence : Option CodeFence → Fence
-as_fence none = Outside
-as_fence (some f) = kind_of_mark f.mark
+as_fence None = Outside
+as_fence (Some f) = kind_of_mark f.mark
 
 abbrev pub is_open : Option CodeFence → Bool
-is_open none = false
-is_open (some f) = true
+is_open None = false
+is_open (Some f) = true
 
 -- an opener has three bytes or more
 abbrev pub IsFence : Option CodeFence → Type 0
-IsFence none = Unit {0}
-IsFence (some f) = 3 ≤ f.length
+IsFence None = Unit {0}
+IsFence (Some f) = 3 ≤ f.length
 
 -- for every line of ours: where none of them holds of CommonMark's line, the fence that is open behind it is CommonMark's
 abbrev pub SameFence : Type 0
@@ -112,16 +111,16 @@ abbrev pub Parts : (Option CodeFence → List ℕ → Bool) → Option CodeFence
 Parts test o l ours theirs = (test o (ended l) ≡ true) × (((step_after (as_fence o) false l).fence ≡ ours) × (as_fence (code_after o (ended l)) ≡ theirs))
 
 abbrev ticks : ℕ → Option CodeFence
-ticks n = some (record { mark = backtick; length = n })
+ticks n = Some (record { mark = backtick; length = n })
 
 -- each of them parts the two, as an opener or as a closer
 abbrev pub EachParts : Type 0
 EachParts =
-    Parts indented_by_four none (bytes "    ```") Ticks Outside
+    Parts indented_by_four None (bytes "    ```") Ticks Outside
     × (Parts indented_by_four (ticks 3) (bytes "    ```") Outside Ticks
-    × (Parts other_space_before none (0x09 ∷ bytes "~~~") Tildes Outside
+    × (Parts other_space_before None (0x09 ∷ bytes "~~~") Tildes Outside
     × (Parts other_space_before (ticks 3) (0x0B ∷ bytes "```") Outside Ticks
-    × (Parts backtick_in_info none (bytes "```a`") Ticks Outside
+    × (Parts backtick_in_info None (bytes "```a`") Ticks Outside
     × (Parts shorter_closer (ticks 4) (bytes "```") Outside Ticks
     × (Parts text_after_closer (ticks 3) (bytes "```a") Outside Ticks
     × Parts text_after_closer (ticks 3) (bytes "```" ++ (0x0B ∷ [])) Outside Ticks))))))
@@ -136,14 +135,14 @@ OtherKindParts =
 -- lines on which none of them holds: openers, closers and others, outside and in a fence
 abbrev pub NoneHolds : Type 0
 NoneHolds =
-    (scan_departs none (bytes "```rust") ≡ false)
-    × ((scan_departs none (bytes "   ~~~~") ≡ false)
-    × ((scan_departs none (bytes "a ``` b `") ≡ false)
-    × ((scan_departs none (bytes "    a") ≡ false)
+    (scan_departs None (bytes "```rust") ≡ false)
+    × ((scan_departs None (bytes "   ~~~~") ≡ false)
+    × ((scan_departs None (bytes "a ``` b `") ≡ false)
+    × ((scan_departs None (bytes "    a") ≡ false)
     × ((scan_departs (ticks 3) (bytes "```") ≡ false)
     × ((scan_departs (ticks 3) (bytes "  `````  ") ≡ false)
     × ((scan_departs (ticks 3) (bytes "    a ```") ≡ false)
-    × ((scan_departs none (0x09 ∷ bytes "a") ≡ false)
+    × ((scan_departs None (0x09 ∷ bytes "a") ≡ false)
     × ((scan_departs (ticks 3) (bytes "```" ++ (0x09 ∷ [])) ≡ false)
     × ((scan_departs (ticks 3) (ended (bytes "```" ++ (0x0D ∷ []))) ≡ false)
     × (departs (ticks 3) (bytes "~~~ a") ≡ false))))))))))

@@ -1,6 +1,5 @@
 -- Where our headings and CommonMark's part: the named departures of docs/DIFFERENCES.md, each a test of the line, and the theorems that there are no others and that each is one.
-use Rattle.std.specs.Prelude.{ℕ, Bool, true, false, ◌&&◌, ◌||◌, List, [], ◌∷◌, ◌++◌, ◌≡◌, length, drop, get_or, eqb, leb}
-use Rattle.std.proofs.Math.Option.{Option, none, some}
+use Rattle.std.specs.Prelude.{ℕ, Bool, true, false, ◌&&◌, ◌||◌, List, [], ◌∷◌, ◌++◌, ◌≡◌, length, drop, get_or, eqb, leb, Option, Some, None}
 use Rattle.text.specs.Pattern.{bytes, starts_with}
 use Rattle.text.specs.Space.{is_space}
 use Rattle.heading.specs.Walk.{hashes, heading_of}
@@ -8,8 +7,8 @@ use Rattle.commonmark.specs.Strip.{ended, strip, indent}
 use Rattle.commonmark.specs.Atx.{Atx, heading, atx, as_atx, is_closed}
 
 abbrev pub is_heading : Option Atx → Bool
-is_heading none = false
-is_heading (some h) = true
+is_heading None = false
+is_heading (Some h) = true
 
 -- 1 to 6 hashes at column 0
 abbrev pub is_opened : List ℕ → Bool
@@ -72,10 +71,10 @@ Parts test l ours theirs = (test (ended l) ≡ true) × ((as_atx l (heading_of l
 -- each of them parts the two
 abbrev pub EachParts : Type 0
 EachParts =
-    Parts indented (bytes " # a") none (heading 1 (bytes "a"))
-    × (Parts tab_after_hashes (0x23 ∷ 0x09 ∷ bytes "a") none (heading 1 (bytes "a"))
-    × (Parts bare_hashes (bytes "##") none (heading 2 [])
-    × (Parts bare_hashes (bytes "#" ++ (0x0D ∷ [])) none (heading 1 [])
+    Parts indented (bytes " # a") None (heading 1 (bytes "a"))
+    × (Parts tab_after_hashes (0x23 ∷ 0x09 ∷ bytes "a") None (heading 1 (bytes "a"))
+    × (Parts bare_hashes (bytes "##") None (heading 2 [])
+    × (Parts bare_hashes (bytes "#" ++ (0x0D ∷ [])) None (heading 1 [])
     × (Parts closing_run (bytes "# a #") (heading 1 (bytes "a #")) (heading 1 (bytes "a"))
     × (Parts closing_run (bytes "# a" ++ (0x09 ∷ bytes "#")) (heading 1 (0x61 ∷ 0x09 ∷ bytes "#")) (heading 1 (bytes "a"))
     × (Parts other_space_bytes (bytes "# " ++ (0x0B ∷ bytes "a")) (heading 1 (bytes "a")) (heading 1 (0x0B ∷ bytes "a"))
