@@ -1,10 +1,10 @@
 #![tactic(auto)]
 
 // What is put at a place of the work buffer, within the limit, and the texts that are read meanwhile.
-ghost use Rattle.std.specs.Prelude.{[], ◌≡◌, ◌+◌, ◌≤◌, length};
+ghost use Rattle.std.specs.Prelude.{[], ◌≡◌, ◌+◌, ◌-◌, ◌≤◌, length};
 ghost use Rattle.text.specs.Bytes.{part};
 ghost use Rattle.heading.specs.Level.{heading_line};
-ghost use Rattle.put.specs.Put.{source_text, part_of, Able, Wrote};
+ghost use Rattle.put.specs.Put.{source_text, part_of, Able, Inside, Wrote};
 
 use heading::level;
 
@@ -16,6 +16,18 @@ pub struct Source {
     pub work: bool,
     pub start: usize,
     pub end: usize,
+}
+
+impl Source {
+    // The bytes of the source.
+    pub fn bytes<'a>(self, contents: &'a [u8], work: &'a [u8]) -> &'a [u8]
+        requires { Inside self 0 (length contents.now) (length work.now) }
+        ensures text { result.now ≡ source_text self contents.now work.now }
+        ensures len { length result.now ≡ self.end - self.start }
+    {
+        let buffer = if self.work { work } else { contents };
+        &buffer[self.start..self.end]
+    }
 }
 
 // A place of the work buffer, and the limit.

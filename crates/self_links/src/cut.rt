@@ -2,7 +2,6 @@
 ghost use Rattle.std.specs.Prelude.{◌≤◌, length};
 ghost use Rattle.self_links.specs.Cuts.{FoundCut};
 
-use link::links::Part;
 use link::{links, target};
 
 #[derive(Clone, Copy)]
@@ -18,19 +17,16 @@ pub fn next_cut(line: &[u8], from: usize, dir: &[u8], host: &[u8]) -> Option<Cut
     ensures { FoundCut host.now dir.now line.now from result }
 {
     let mut i = from;
-    loop {
-        let Some(Part { start, end }) = links::next_link(line, i) else {
-            return None;
-        };
-        let n = target::anchor_self(&line[start..end], dir, host);
+    while let Some(link) = links::next_link(line, i) {
+        let n = target::anchor_self(&line[link.start..link.end], dir, host);
         if 0 < n {
-            let stop = start + n;
             return Some(Cut {
-                start,
-                end: stop,
-                next: end,
+                start: link.start,
+                end: link.start + n,
+                next: link.end,
             });
         }
-        i = end;
+        i = link.end;
     }
+    None
 }

@@ -4,11 +4,9 @@
 ghost use Rattle.put.specs.Put.{source_text, Able, Wrote};
 ghost use Rattle.self_links.specs.Cuts.{linked_text};
 
-use cut::Cut;
 use put::{Room, Source};
 
 pub mod cut;
-mod read;
 
 // A source without the bytes that go.
 pub fn put_cuts(
@@ -25,25 +23,18 @@ pub fn put_cuts(
     let limit = room.limit;
     let mut at = room.at;
     let mut i = 0;
-    loop {
-        let Some(Cut { start, end, next }) = read::cut_in(contents, work, source, i, dir, host)
-        else {
-            return put::put_part(
-                contents,
-                source,
-                i,
-                source.end - source.start,
-                Room { at, limit },
-                work,
-            );
-        };
-        let Some(m) = put::put_part(contents, source, i, start, Room { at, limit }, work) else {
-            return None;
-        };
-        let Some(n) = put::put_part(contents, source, end, next, Room { at: m, limit }, work) else {
-            return None;
-        };
-        at = n;
-        i = next;
+    while let Some(cut) = cut::next_cut(source.bytes(contents, work), i, dir, host) {
+        let m = put::put_part(contents, source, i, cut.start, Room { at, limit }, work)?;
+        at = put::put_part(
+            contents,
+            source,
+            cut.end,
+            cut.next,
+            Room { at: m, limit },
+            work,
+        )?;
+        i = cut.next;
     }
+    let end = source.end - source.start;
+    put::put_part(contents, source, i, end, Room { at, limit }, work)
 }

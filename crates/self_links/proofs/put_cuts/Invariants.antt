@@ -3,8 +3,8 @@ use Prim.Native.Nat.{◌-◌}
 use Rattle.self_links.proofs.CuttingLaws.{Cutting}
 use Rattle.self_links.proofs.put_cuts.Given as goal
 
-abbrev pub invariant-loop-start : goal.invariant-loop-start
-invariant-loop-start l = Cutting l.host l.dir l.source (record { at = l.initial.at; limit = l.limit }) l.contents l.initial.work l.work l.at l.i
+abbrev pub invariant-loop-cut : goal.invariant-loop-cut
+invariant-loop-cut l = Cutting l.host l.dir l.source (record { at = l.initial.at; limit = l.limit }) l.contents l.initial.work l.work l.at l.i
 
-abbrev pub decreases-loop-start : goal.decreases-loop-start
-decreases-loop-start l = l.source.end - l.source.start - l.i
+abbrev pub decreases-loop-cut : goal.decreases-loop-cut
+decreases-loop-cut l = l.source.end - l.source.start - l.i

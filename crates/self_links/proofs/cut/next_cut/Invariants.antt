@@ -4,8 +4,8 @@ use lib.ListN.{length}
 use Rattle.self_links.proofs.CutLaws.{Passed}
 use Rattle.self_links.proofs.cut.next_cut.Given as goal
 
-abbrev pub invariant-loop-start : goal.invariant-loop-start
-invariant-loop-start l = Passed l.host l.dir l.line l.from l.i
+abbrev pub invariant-loop-link : goal.invariant-loop-link
+invariant-loop-link l = Passed l.host l.dir l.line l.from l.i
 
-abbrev pub decreases-loop-start : goal.decreases-loop-start
-decreases-loop-start l = length l.line - l.i
+abbrev pub decreases-loop-link : goal.decreases-loop-link
+decreases-loop-link l = length l.line - l.i
