@@ -22,18 +22,18 @@ unfolding is_name
 name-at-most s e =
     leb-true (length s) 255 (and_right (leb 1 (length s)) (leb (length s) 255) (and_left (leb 1 (length s) && leb (length s) 255) (not (any is_unprinted s)) e))
 
-fields-short : (ps : List (List ℕ)) (n a z : ℕ) → fields ps ≡ Some (record { name = n; start = a; size = z }) → n ≤ 255
-fields-short [] n a z e = let q : ◌≡◌ {A = ℕ} 0 1 = cc in absurd (omega arith)
-fields-short (p ∷ []) n a z e = let q : ◌≡◌ {A = ℕ} 0 1 = cc in absurd (omega arith)
-fields-short (p ∷ f ∷ []) n a z e = let q : ◌≡◌ {A = ℕ} 0 1 = cc in absurd (omega arith)
-fields-short (p ∷ f ∷ g ∷ []) n a z e = go (is_name p) refl (field_of f) (field_of g) e
+fields-short : (ps : List (List ℕ)) (i : IndexLine) → fields ps ≡ Some i → i.name ≤ 255
+fields-short [] i e = cc
+fields-short (p ∷ []) i e = cc
+fields-short (p ∷ f ∷ []) i e = cc
+fields-short (p ∷ f ∷ g ∷ []) i e = go (is_name p) refl (field_of f) (field_of g) e
   where
-    go : (b : Bool) → is_name p ≡ b → (x y : Option ℕ) → cond b (numbered (length p) x y) None ≡ Some (record { name = n; start = a; size = z }) → n ≤ 255
-    go true t (Some x) (Some y) h = let q : n ≡ length p = cc in omega (arith, name-at-most p t)
-    go true t (Some x) None h = let q : ◌≡◌ {A = ℕ} 0 1 = cc in absurd (omega arith)
-    go true t None y h = let q : ◌≡◌ {A = ℕ} 0 1 = cc in absurd (omega arith)
-    go false t x y h = let q : ◌≡◌ {A = ℕ} 0 1 = cc in absurd (omega arith)
-fields-short (p ∷ f ∷ g ∷ q ∷ ps) n a z e = let q : ◌≡◌ {A = ℕ} 0 1 = cc in absurd (omega arith)
+    go : (b : Bool) → is_name p ≡ b → (x y : Option ℕ) → cond b (numbered (length p) x y) None ≡ Some i → i.name ≤ 255
+    go true t (Some x) (Some y) h = let q : record { name = length p; start = x; size = y } ≡ i = cc in rw (← q) (name-at-most p t)
+    go true t (Some x) None h = cc
+    go true t None y h = cc
+    go false t x y h = cc
+fields-short (p ∷ f ∷ g ∷ q ∷ ps) i e = cc
 
 -- of record k, counted from 0, whatever stands behind the last
 records-short : (ls : List (List ℕ)) (k : ℕ) (d : Record) → k < length (records_from ls) → length (get_or (records_from ls) k d).name ≤ 255
@@ -44,7 +44,7 @@ records-short (l ∷ ls) k d h = go (fields (split TAB l)) refl k h (λ i j. rec
     go : (i : Option IndexLine) → fields (split TAB l) ≡ i → (k : ℕ) → k < length (recorded l i (records_from ls))
         → ((j : ℕ) → j < length (records_from ls) → length (get_or (records_from ls) j d).name ≤ 255)
         → length (get_or (recorded l i (records_from ls)) k d).name ≤ 255
-    go (Some p) e zero t ih = omega (arith, length-take p.name l, fields-short (split TAB l) p.name p.start p.size e)
+    go (Some p) e zero t ih = omega (arith, length-take p.name l, fields-short (split TAB l) p e)
     go (Some p) e (suc j) t ih = ih j (omega arith)
     go None e j t ih = ih j t
 

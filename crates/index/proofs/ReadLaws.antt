@@ -11,7 +11,7 @@ use lib.ListN.{length, take, drop, length-take}
 use lib.Seq.{take-take}
 use lib.Dec.{eqb}
 use borrow.Author.Count.{below_more}
-use borrow.Author.Tests.{eqb-true, ne_eqb}
+use borrow.Author.Tests.{eqb-true, eqb-false, ne_eqb}
 use Rattle.index.specs.declared.line.IndexLine.{IndexLine}
 use Rattle.text.specs.Bytes.{part, is, first, count}
 use Rattle.text.specs.Lines.{LF, pieces}
@@ -19,37 +19,37 @@ use Rattle.text.specs.Split.{split}
 use Rattle.text.proofs.BytesLaws.{first_le, part_length}
 use Rattle.text.proofs.SplitLaws.{split_step, split-last, split-count}
 use Rattle.index.specs.Index.{TAB, is_name, field_of, numbered, fields, line_of, is_fields, ill_formed_from, ill_formed, entry, recorded, records_from, records}
-use Rattle.index.specs.Rows.{row, row_at, put_row, record_of, records_in, AreNamed, index_read, Told}
+use Rattle.index.specs.Rows.{row, row_at, put_row, record_of, records_in, AreNamed, AreRows, index_read}
 use Rattle.index.proofs.IndexLaws.{last_empty, last_open, next-piece}
 use Rattle.index.proofs.RowsLaws.{row-forward, row_within, records_more, records-same, rows_length, row_before, row_written}
 
 -- the name is the first field of its line
-fields-name : (p : List ℕ) (ps : List (List ℕ)) (n a z : ℕ) → fields (p ∷ ps) ≡ Some (record { name = n; start = a; size = z }) → n ≡ length p
-fields-name p [] n a z e = cc
-fields-name p (f ∷ []) n a z e = cc
-fields-name p (f ∷ g ∷ []) n a z e = go (is_name p) (field_of f) (field_of g) e
+fields-name : (p : List ℕ) (ps : List (List ℕ)) (i : IndexLine) → fields (p ∷ ps) ≡ Some i → i.name ≡ length p
+fields-name p [] i e = cc
+fields-name p (f ∷ []) i e = cc
+fields-name p (f ∷ g ∷ []) i e = go (is_name p) (field_of f) (field_of g) e
   where
-    go : (b : Bool) (x y : Option ℕ) → cond b (numbered (length p) x y) None ≡ Some (record { name = n; start = a; size = z }) → n ≡ length p
-    go true (Some x) (Some y) h = cc
+    go : (b : Bool) (x y : Option ℕ) → cond b (numbered (length p) x y) None ≡ Some i → i.name ≡ length p
+    go true (Some x) (Some y) h = let q : record { name = length p; start = x; size = y } ≡ i = cc in rw (← q)
     go true (Some x) None h = cc
     go true None y h = cc
     go false x y h = cc
-fields-name p (f ∷ g ∷ q ∷ ps) n a z e = cc
+fields-name p (f ∷ g ∷ q ∷ ps) i e = cc
 
-name-within : (l : List ℕ) (n a z : ℕ) → line_of l ≡ Some (record { name = n; start = a; size = z }) → n ≤ length l
+name-within : (l : List ℕ) (i : IndexLine) → line_of l ≡ Some i → i.name ≤ length l
 unfolding line_of
-name-within l n a z e = go (dec_le (length l) k)
+name-within l i e = go (dec_le (length l) k)
   where
     k : ℕ
     k = first (is TAB) l
 
-    go : Dec (length l ≤ k) → n ≤ length l
-    go (yes h) = omega (arith, fields-name l [] n a z (rw (split-last TAB l (omega (arith, first_le (is TAB) l))) at e))
+    go : Dec (length l ≤ k) → i.name ≤ length l
+    go (yes h) = omega (arith, fields-name l [] i (rw (split-last TAB l (omega (arith, first_le (is TAB) l))) at e))
     go (no h) =
-        omega (arith, length-take k l, fields-name (take k l) (split TAB (drop (suc k) l)) n a z (rw (split_step TAB l (omega arith)) at e))
+        omega (arith, length-take k l, fields-name (take k l) (split TAB (drop (suc k) l)) i (rw (split_step TAB l (omega arith)) at e))
 
-pub name-end : (index : List ℕ) (a e : ℕ) {n s z : ℕ} → line_of (part a e index) ≡ Some (record { name = n; start = s; size = z }) → a ≤ e → a + n ≤ e
-name-end index a e {n} {s} {z} f h = omega (arith, name-within (part a e index) n s z f, part_length index a e)
+pub name-end : (index : List ℕ) (a e : ℕ) {i : IndexLine} → line_of (part a e index) ≡ Some i → a ≤ e → a + i.name ≤ e
+name-end index a e {i} f h = omega (arith, name-within (part a e index) i f, part_length index a e)
 
 name-part : (index : List ℕ) (a e n : ℕ) → a + n ≤ e → take n (part a e index) ≡ part a (a + n) index
 name-part index a e n h =
@@ -143,41 +143,45 @@ module _ {index rows : List ℕ} {n a : ℕ} (u : Upto index rows n a) (e : ℕ)
     none_left : a ≡ e → records_from (pieces (drop a index)) ≡ []
     none_left h = rw p (no_record (part a e index) (omega (arith, part_length index a e)))
 
-    pub read_all : a ≡ e → (Ok n ≡ index_read index) × Told index rows (Ok n)
-    read_all h =
-        let z = last_empty index (n + 1) a e p h ∙ u.judged in
-        let none = none_left h in
-        let c : n ≡ length (records index) = rw (none, add-zero) at u.counted in (
-          read_good index z c,
-          λ few. record { same = rw (← c) (rw (none, append-nil) at (u.same few)); named = rw (← c) (u.named few) },
-        )
+    all_counted : a ≡ e → n ≡ length (records index)
+    all_counted h = rw (none_left h, add-zero) at u.counted
+
+    pub read_all : a ≡ e → Ok n ≡ index_read index
+    read_all h = read_good index (last_empty index (n + 1) a e p h ∙ u.judged) (all_counted h)
+
+    pub told_all : a ≡ e → n ≤ 64 → AreRows index rows
+    told_all h few =
+        let c = all_counted h in
+        record { same = rw (← c) (rw (none_left h, append-nil) at (u.same few)); named = rw (← c) (u.named few) }
 
   module _ (p : pieces (drop a index) ≡ part a e index ∷ pieces (drop (e + 1) index)) where
     pub read_ill : line_of (part a e index) ≡ None → Err (n + 1) ≡ index_read index
     read_ill h = read_bad index (omega arith) (sym (rw h at (next-piece index (n + 1) a e p)) ∙ u.judged)
 
-    module _ {m s z : ℕ} (h : line_of (part a e index) ≡ Some (record { name = m; start = s; size = z })) where
-      one_more : records_from (pieces (drop a index)) ≡ entry (take m (part a e index)) s z ∷ records_from (pieces (drop (e + 1) index))
+    module _ {i : IndexLine} (h : line_of (part a e index) ≡ Some i) where
+      one_more : records_from (pieces (drop a index)) ≡ entry (take i.name (part a e index)) i.start i.size ∷ records_from (pieces (drop (e + 1) index))
       unfolding records_from
       one_more = rw (p, h)
 
-      pub read_turn : {rows' : List ℕ} → a ≤ e → e < length index → rows' ≡ put_row rows n (row a (a + m) s z)
+      pub read_turn : {rows' : List ℕ} → a ≤ e → e < length index → rows' ≡ put_row rows n (row a (a + i.name) i.start i.size)
           → Upto index rows' (n + 1) (e + 1)
       read_turn {rows'} k l w =
-          let i : a + m ≤ e = name-end index a e h k in
-          let before : (j : ℕ) → j < n → row_at rows' j ≡ row_at rows j = λ j t. ap (λ (x : List ℕ). row_at x j) w ∙ row_before rows n (row a (a + m) s z) j t in
-          let here : n + 1 ≤ 64 → row_at rows' n ≡ row a (a + m) s z = λ few. ap (λ (x : List ℕ). row_at x n) w ∙ row_written rows n (row a (a + m) s z) (omega arith) u.whole in
+          let l-end : a + i.name ≤ e = name-end index a e h k in
+          let before : (j : ℕ) → j < n → row_at rows' j ≡ row_at rows j = λ j t. ap (λ (x : List ℕ). row_at x j) w ∙ row_before rows n (row a (a + i.name) i.start i.size) j t in
+          let here : n + 1 ≤ 64 → row_at rows' n ≡ row a (a + i.name) i.start i.size = λ few. ap (λ (x : List ℕ). row_at x n) w ∙ row_written rows n (row a (a + i.name) i.start i.size) (omega arith) u.whole in
           record {
-            whole = ap length w ∙ rows_length rows n (row a (a + m) s z) ∙ u.whole;
+            whole = ap length w ∙ rows_length rows n (row a (a + i.name) i.start i.size) ∙ u.whole;
             within = omega arith;
             short = omega (arith, u.short);
             judged = sym (rw h at (next-piece index (n + 1) a e p)) ∙ u.judged;
             counted = omega (arith, u.counted, ap length one_more);
             same = λ few.
-                rw (records_more index rows' n, records-same index rows' rows 0 n (λ j t. before j (omega arith)), ap (record_of index) (here few), append_assoc, ← name-part index a e m i, ← one_more)
+                rw (records_more index rows' n, records-same index rows' rows 0 n (λ j t. before j (omega arith)), ap (record_of index) (here few), append_assoc, ← name-part index a e i.name l-end, ← one_more)
                 (u.same (omega arith));
             named = λ few. record {
               forward = below_more (λ j. (row_at rows' j).name ≤ (row_at rows' j).end) n (λ j t. row-forward (before j t) ((u.named (omega arith)).forward j t)) (row-forward (here few) (omega arith));
               within = below_more (λ j. (row_at rows' j).end ≤ length index) n (λ j t. row_within (before j t) (length index) ((u.named (omega arith)).within j t)) (row_within (here few) (length index) (omega arith));
             };
           }
+
+pub ruleset reading = (read_start, read_open, read_all, read_ill, name-end, eqb-false)

@@ -1,5 +1,5 @@
 -- Laws of refusals 3 to 5 (`specs/Records.antt`) over the rows of the records: at a row, and behind the last. Assumes nothing.
-use Rattle.std.specs.Prelude.{Option, Some, None}
+use Rattle.std.specs.Prelude.{Option, is_some}
 use Prim.Native.Nat.{ℕ, zero, suc, ◌+◌, ◌-◌, ◌≤◌, ◌<◌}
 use native.Mathlib.Decide.{dec_le}
 use native.Mathlib.Omega.{arith}
@@ -13,7 +13,7 @@ use Rattle.text.specs.Ascii.{wide_line}
 use Rattle.index.specs.Index.{file_text, find_record}
 use Rattle.index.specs.Rows.{row_at, record_of, records_in, AreWithin}
 use Rattle.index.specs.declared.rows.Row.{Row}
-use Rattle.index.proofs.RowsLaws.{records-at, records-end, records_more}
+use Rattle.index.proofs.RowsLaws.{records-at, records-end, records_more, records-none, records_all}
 use Rattle.index.specs.Records.{past_from, twice_from, wide_from}
 
 -- at row k
@@ -38,11 +38,11 @@ module _ (index rows : List ℕ) (k n : ℕ) (h : k < n) {r : Row} (e : r ≡ ro
     wide_on t = rw (records-at index rows k n h, ← (rw e at l), t)
 
   module _ {f : Option ℕ} (q : f ≡ find_record (record_of index r).name (records_in index rows 0 k)) where
-    pub twice_here : {i : ℕ} → f ≡ Some i → k + 1 ≡ twice_from (k + 1) (records_in index rows 0 k) (records_in index rows k (n - k))
+    pub twice_here : is_some f ≡ true → k + 1 ≡ twice_from (k + 1) (records_in index rows 0 k) (records_in index rows k (n - k))
     unfolding twice_from
     twice_here t = rw (records-at index rows k n h, ← (rw e at q), t)
 
-    pub twice_on : f ≡ None
+    pub twice_on : is_some f ≡ false
         → twice_from (k + 1 + 1) (records_in index rows 0 (k + 1)) (records_in index rows (k + 1) (n - (k + 1)))
         ≡ twice_from (k + 1) (records_in index rows 0 k) (records_in index rows k (n - k))
     unfolding twice_from
@@ -81,3 +81,9 @@ past-none index rows room j k (suc n) h e i a b =
 
 pub are_within : (index rows : List ℕ) (room n : ℕ) → past_from 1 room (records_in index rows 0 n) ≡ 0 → AreWithin room rows n
 are_within index rows room n e = record { fits = λ k h. past-none index rows room 1 0 n (omega arith) e k (omega arith) (omega arith) }
+
+pub ruleset passing = (past-here, past_on, past_end)
+
+pub ruleset wide = (wide_here, wide_on, wide_end)
+
+pub ruleset twice = (twice_here, twice_on, twice_end, records-none, records_all)

@@ -12,9 +12,9 @@ use lib.Seq.{sets, get_or-set_same, get_or-set_other}
 use lib.Dec.{ltb}
 use borrow.Author.Tests.{lt-ltb}
 use Rattle.text.specs.Pattern.{equals, later}
-use Rattle.text.proofs.PatternLaws.{later-zero, later-later}
+use Rattle.text.proofs.PatternLaws.{later-later}
 use Rattle.index.specs.Index.{Record, files_from, find_record, first_named}
-use Rattle.index.specs.Rows.{row_at, put_row, record_of, records_in, AreNamed}
+use Rattle.index.specs.Rows.{row_at, put_row, record_of, records_in}
 use Rattle.index.specs.declared.rows.Row.{Row}
 
 -- a row that lies in the index and in the contents
@@ -28,9 +28,6 @@ module _ {x y : Row} (e : x ≡ y) where
   pub row_fits : (n : ℕ) → y.start + y.size ≤ n → x.start + x.size ≤ n
   row_fits n h = rw e h
 
-pub named-first : {index rows : List ℕ} {n k : ℕ} → AreNamed index rows n → k ≤ n → AreNamed index rows k
-named-first a h = record { forward = λ i j. a.forward i (omega arith); within = λ i j. a.within i (omega arith) }
-
 module _ (index rows : List ℕ) where
   -- from row k on
   pub records-at : (k n : ℕ) → k < n → records_in index rows k (n - k) ≡ record_of index (row_at rows k) ∷ records_in index rows (k + 1) (n - (k + 1))
@@ -40,6 +37,10 @@ module _ (index rows : List ℕ) where
   pub records-end : (k n : ℕ) → n ≤ k → records_in index rows k (n - k) ≡ []
   unfolding records_in
   records-end k n h = let e : n - k ≡ 0 = omega arith in rw e
+
+  pub records-none : (k : ℕ) → records_in index rows k 0 ≡ []
+  unfolding records_in
+  records-none k = refl
 
   pub records_all : (n : ℕ) → records_in index rows 0 (n - 0) ≡ records_in index rows 0 n
   records_all n = rw (sub-zero n)
@@ -60,10 +61,7 @@ module _ (index rows : List ℕ) where
   records-length k zero = refl
   records-length k (suc n) = ap suc (records-length (k + 1) n)
 
-  -- a search by name, before the first row, and once it has passed k rows
-  pub find-start : (name : List ℕ) (n : ℕ) → find_record name (records_in index rows 0 n) ≡ later 0 (find_record name (records_in index rows 0 (n - 0)))
-  find-start name n = rw (records_all n) (sym (later-zero (find_record name (records_in index rows 0 n))))
-
+  -- a search by name, once it has passed k rows
   module _ (name : List ℕ) (k n : ℕ) (passed : find_record name (records_in index rows 0 n) ≡ later k (find_record name (records_in index rows k (n - k)))) where
     pub found-row : {r : Row} → r ≡ row_at rows k → k < n → equals name (record_of index r).name ≡ true → Some k ≡ find_record name (records_in index rows 0 n)
     unfolding first_named
@@ -163,3 +161,5 @@ pub files-length : (k : ℕ) (contents : List ℕ) (rs : List Record) → length
 unfolding files_from
 files-length k contents [] = refl
 files-length k contents (r ∷ rs) = ap suc (files-length (k + 1) contents rs)
+
+pub ruleset finding = (found-row, missed_row, no_row)

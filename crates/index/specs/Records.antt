@@ -1,9 +1,8 @@
 -- Document 01, "Records": what refusals 3 to 5 look for, over the records of an index.
-use Rattle.std.specs.Prelude.{ℕ, ◌+◌, cond, List, [], ◌∷◌, ◌++◌, eqb, ltb}
+use Rattle.std.specs.Prelude.{ℕ, ◌+◌, cond, List, [], ◌∷◌, ◌++◌, eqb, ltb, is_some}
 use Rattle.answer.specs.Answer.{place}
 use Rattle.answer.specs.declared.Place.{Place}
 use Rattle.text.specs.Ascii.{wide_line}
-use Rattle.text.specs.Pattern.{is_at}
 use Rattle.index.specs.Index.{Record, file_text, find_record}
 
 -- 3 "part ends past contents, at its index line": the first such record's line, or 0; the lines count from n
@@ -14,7 +13,7 @@ past_from n room (r ∷ rs) = cond (ltb room (r.start + r.size)) n (past_from (n
 -- 4 "name twice, at the second": the line of the first record whose name one of those before it has, or 0; qs stand before, and the lines count from n
 unfoldable pub twice_from : ℕ → List Record → List Record → ℕ
 twice_from n qs [] = 0
-twice_from n qs (r ∷ rs) = cond (is_at (find_record r.name qs)) n (twice_from (n + 1) (qs ++ (r ∷ [])) rs)
+twice_from n qs (r ∷ rs) = cond (is_some (find_record r.name qs)) n (twice_from (n + 1) (qs ++ (r ∷ [])) rs)
 
 -- 5 "byte 80 hex or above in host, then in files in record order": the first such place in files, line 0 where there is none; the files count from k
 unfoldable pub wide_from : ℕ → List ℕ → List Record → Place

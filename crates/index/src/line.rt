@@ -1,6 +1,6 @@
 // A line of an index.
 ghost use Rattle.std.specs.Prelude.{◌≡◌};
-ghost use Rattle.index.specs.Index.{field_of, numbered, line_of};
+ghost use Rattle.index.specs.Index.{field_of, line_of};
 
 use crate::name;
 use buffer::decimal;
@@ -15,40 +15,18 @@ pub struct IndexLine {
 }
 
 // The number of a field.
+#[tactic(auto, using(crate::proofs::IndexLaws::needless_by), unfolding(crate::specs::Index::field_of))]
 fn field(s: &[u8]) -> Option<usize>
     ensures { result ≡ field_of s.now }
 {
-    if s.len() < 1 {
+    if s.is_empty() || s.len() > 9 || s.len() > 1 && s[0] == b'0' {
         return None;
-    }
-    if 9 < s.len() {
-        return None;
-    }
-    if 1 < s.len() {
-        if s[0] == b'0' {
-            return None;
-        }
     }
     decimal::parse(s)
 }
 
-fn fields(name: usize, start: Option<usize>, size: Option<usize>) -> Option<IndexLine>
-    ensures { result ≡ numbered name start size }
-{
-    let Some(a) = start else {
-        return None;
-    };
-    let Some(z) = size else {
-        return None;
-    };
-    Some(IndexLine {
-        name,
-        start: a,
-        size: z,
-    })
-}
-
 // Reads a line of the index.
+#[tactic(auto, using(crate::proofs::IndexLaws::lines))]
 pub fn read_line(line: &[u8]) -> Option<IndexLine>
     ensures { result ≡ line_of line.now }
 {
@@ -67,5 +45,11 @@ pub fn read_line(line: &[u8]) -> Option<IndexLine>
     if !name::is_name(&line[..a]) {
         return None;
     }
-    fields(a, field(&line[a + 1..b]), field(&line[b + 1..]))
+    let start = field(&line[a + 1..b])?;
+    let size = field(&line[b + 1..])?;
+    Some(IndexLine {
+        name: a,
+        start,
+        size,
+    })
 }

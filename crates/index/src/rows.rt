@@ -4,7 +4,6 @@ ghost use Rattle.index.specs.Index.{find_record};
 ghost use Rattle.index.specs.Rows.{row_at, put_row, records_in, AreNamed, index_read, Told};
 
 use crate::line;
-use crate::line::IndexLine;
 use text::{lines, pattern};
 
 // Where a record's name starts and ends in the index, and start and length of its file's part of the contents.
@@ -44,6 +43,7 @@ fn put_row(rows: &mut [usize; 256], k: usize, row: Row)
 }
 
 // Reads an index. Lines past the 64th are judged and not kept, since refusal 1 comes before refusal 2.
+#[tactic(auto, using(crate::proofs::ReadLaws::reading))]
 pub fn read(index: &[u8], rows: &mut [usize; 256]) -> Result<usize, usize>
     ensures value { result ≡ index_read index.now }
     ensures told { Told index.now rows.new result }
@@ -60,39 +60,30 @@ pub fn read(index: &[u8], rows: &mut [usize; 256]) -> Result<usize, usize>
             }
             return Err(n + 1);
         }
-        match line::read_line(&index[a..e]) {
-            Some(IndexLine { name, start, size }) => {
-                let row = Row {
-                    name: a,
-                    end: a + name,
-                    start,
-                    size,
-                };
-                put_row(rows, n, row);
-                n += 1;
-                a = e + 1;
-            }
-            None => {
-                return Err(n + 1);
-            }
-        }
+        let fields = line::read_line(&index[a..e]).ok_or(n + 1)?;
+        let row = Row {
+            name: a,
+            end: a + fields.name,
+            start: fields.start,
+            size: fields.size,
+        };
+        put_row(rows, n, row);
+        n += 1;
+        a = e + 1;
     }
 }
 
 // The first record of a name among so many, counted from 0.
+#[tactic(auto, using(crate::proofs::RowsLaws::finding))]
 pub fn find(index: &[u8], rows: &[usize; 256], count: usize, name: &[u8]) -> Option<usize>
     requires { (count ≤ 64) × AreNamed index.now rows.now count }
     ensures { result ≡ find_record name.now (records_in index.now rows.now 0 count) }
 {
-    let mut k = 0;
-    while k < count {
+    for k in 0..count {
         let row = row_at(rows, k);
-        let a = row.name;
-        let e = row.end;
-        if pattern::equals(&index[a..e], name) {
+        if pattern::equals(&index[row.name..row.end], name) {
             return Some(k);
         }
-        k += 1;
     }
     None
 }

@@ -1,13 +1,9 @@
 -- `records::wide_place` meets its contract. The invariant: the first wide byte in the files of the rows from k on is the first of all. Assumes nothing.
-use Prim.Native.Nat.{ℕ, ◌+◌, ◌-◌, ◌≤◌}
-use mathlib.Core.Path.{◌≡◌}
-use mathlib.Core.List.{List}
+use Rattle.std.proofs.Common.{◌≡◌, ℕ, ◌+◌, ◌-◌, List}
 use Rattle.index.specs.Rows.{records_in}
 use Rattle.index.specs.Records.{wide_from}
 use Rattle.index.proofs.records.wide_place.Given as goal
 
 abbrev pub invariant-loop-k : goal.invariant-loop-k
-invariant-loop-k l = (l.k ≤ l.count) × ((index : List ℕ) → wide_from (l.k + 1) l.contents (records_in index l.rows l.k (l.count - l.k)) ≡ wide_from 1 l.contents (records_in index l.rows 0 l.count))
-
-abbrev pub decreases-loop-k : goal.decreases-loop-k
-decreases-loop-k l = l.count - l.k
+invariant-loop-k l =
+    (index : List ℕ) → wide_from (l.k + 1) l.contents (records_in index l.rows l.k (l.count - l.k)) ≡ wide_from 1 l.contents (records_in index l.rows 0 l.count)
