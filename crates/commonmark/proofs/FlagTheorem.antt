@@ -21,7 +21,7 @@ use Rattle.scan.specs.Scan.{after, kind_at}
 use Rattle.scan.specs.declared.state.State.{State}
 use Rattle.commonmark.specs.Strip.{ended, indent}
 use Rattle.commonmark.specs.Fenced.{Mark, backtick, tilde, CodeFence, unindented, run, opens_with, code_opener, closes_code, code_after}
-use Rattle.commonmark.specs.Fences.{three_of, is_seen, other_of, other_kind_closes, departs, scan_departs, as_fence, is_open, IsFence, SameFlag, OtherFlag, StaysFence, EachParts, OtherKindParts, NoneHolds}
+use Rattle.commonmark.specs.Fences.{three_of, is_seen, other_of, other_kind_closes, departs, scan_departs, as_fence, IsFence, SameFlag, OtherFlag, StaysFence, EachParts, OtherKindParts, NoneHolds}
 use Rattle.commonmark.proofs.BoolLaws.{◌or◌}
 use Rattle.commonmark.proofs.LineLaws.{by_ended, three_cr}
 use Rattle.commonmark.proofs.FenceLaws.{not_both}
@@ -85,11 +85,11 @@ own : (m : Mark) (l : List ℕ) → three_of (other_of m) l ≡ false → is_fen
 own backtick l h = either_kind l ∙ or_here (three_of backtick l) (three_of tilde l) h
 own tilde l h = either_kind l ∙ rw h
 
-code_opens : (o : Option CodeFence) → opens (as_fence o) ≡ is_open o
+code_opens : (o : Option CodeFence) → opens (as_fence o) ≡ is_some o
 code_opens None = refl
 code_opens (Some f) = mark-opens f.mark
 
-same : (o : Option CodeFence) (st : State) (n at : ℕ) (l : List ℕ) → IsFence o → st.fence ≡ is_open o → scan_departs o l ≡ false → cond (is_fence l) (not st.fence) st.fence ≡ is_open (code_after o l)
+same : (o : Option CodeFence) (st : State) (n at : ℕ) (l : List ℕ) → IsFence o → st.fence ≡ is_some o → scan_departs o l ≡ false → cond (is_fence l) (not st.fence) st.fence ≡ is_some (code_after o l)
 unfolding scan_departs
 same None st n at l h e d = go (is_fence l) ∙ (either_kind l ∙ (sym (seen_opens l) ∙ (ap opens (opened l (three_of backtick l) (three_of tilde l) refl refl (or_right (other_kind_closes None l) _ d)) ∙ code_opens (code_opener l))))
   where
@@ -98,12 +98,12 @@ same None st n at l h e d = go (is_fence l) ∙ (either_kind l ∙ (sym (seen_op
     go false = e
 same (Some f) st n at l h e d = rw (own f.mark l (or_left (other_kind_closes (Some f) l) _ d)) (go (three_of f.mark l) (closed f l (three_of f.mark l) refl h (or_right (other_kind_closes (Some f) l) _ d)))
   where
-    go : (b : Bool) → closes_code f l ≡ b → cond b (not st.fence) st.fence ≡ is_open (code_after (Some f) l)
+    go : (b : Bool) → closes_code f l ≡ b → cond b (not st.fence) st.fence ≡ is_some (code_after (Some f) l)
     go true q = rw (e, q)
     go false q = rw (e, q)
 
 -- where a departure holds the scan sees a fence, and CommonMark none
-parts : (o : Option CodeFence) (st : State) (l : List ℕ) → st.fence ≡ is_open o → is_fence l ≡ true → IsMissed o l → cond (is_fence l) (not st.fence) st.fence ≡ is_open (code_after o l) → ⊥
+parts : (o : Option CodeFence) (st : State) (l : List ℕ) → st.fence ≡ is_some o → is_fence l ≡ true → IsMissed o l → cond (is_fence l) (not st.fence) st.fence ≡ is_some (code_after o l) → ⊥
 parts None st l e s m q = false≢true (sym (rw (s, e, m) at q))
 parts (Some f) st l e s m q = false≢true (rw (s, e, m) at q)
 

@@ -1,5 +1,5 @@
 -- Our heading is CommonMark's where no named departure holds, and only there. Assumes nothing.
-use Rattle.std.specs.Prelude.{Option, Some, None}
+use Rattle.std.specs.Prelude.{Option, Some, None, is_some}
 use Prim.Native.Nat.{ℕ, suc, ◌+◌, ◌-◌}
 use mathlib.Core.Path.{◌≡◌, refl, sym, ◌∙◌, ap}
 use mathlib.Core.Bool.{Bool, true, false, cond, not, false≢true}
@@ -17,7 +17,7 @@ use Rattle.heading.specs.Walk.{hashes, heading_of, text_start, text_end}
 use Rattle.heading.specs.declared.walk.LineKind.TheVariants.{Heading, Other}
 use Rattle.commonmark.specs.Strip.{ended, strip, strip_start, strip_end, indent}
 use Rattle.commonmark.specs.Atx.{Atx, heading, unclosed, is_closed, run_start, atx, atx_from, as_atx}
-use Rattle.commonmark.specs.Headings.{is_heading, is_opened, is_ours, behind, is_spaced, indented, tab_after_hashes, bare_hashes, closing_run, other_space_bytes, departs, SameHeading, OtherHeading, EachParts, NoneHolds}
+use Rattle.commonmark.specs.Headings.{is_opened, is_ours, behind, is_spaced, indented, tab_after_hashes, bare_hashes, closing_run, other_space_bytes, departs, SameHeading, OtherHeading, EachParts, NoneHolds}
 use Rattle.commonmark.proofs.BoolLaws.{of-list, second, ◌or◌}
 use Rattle.commonmark.proofs.LineLaws.{by_ended, hashes_cr, behind_cr, starts_cr, trim_cr}
 use Rattle.commonmark.proofs.StripLaws.{trim-strip, spaced_differs, closed_differs}
@@ -84,12 +84,12 @@ module _ (l : List ℕ) (k : is_ours l ≡ true) where
   text_same e = our-text ∙ (ap (heading (hashes l)) e ∙ sym their-text)
 
 -- one is a heading, the other none
-none_is : (o : Option Atx) → is_heading o ≡ false → o ≡ None
+none_is : (o : Option Atx) → is_some o ≡ false → o ≡ None
 none_is None h = refl
 none_is (Some a) h = absurd (false≢true (sym h))
 
-unlike : (a b : Option Atx) → a ≡ None → is_heading b ≡ true → a ≡ b → ⊥
-unlike a b p q e = false≢true (ap is_heading (sym p ∙ e) ∙ q)
+unlike : (a b : Option Atx) → a ≡ None → is_some b ≡ true → a ≡ b → ⊥
+unlike a b p q e = false≢true (ap is_some (sym p ∙ e) ∙ q)
 
 -- each departure parts the two
 indented_parts : (l : List ℕ) → as_atx l (heading_of l) ≡ atx l → indented l ≡ true → ⊥

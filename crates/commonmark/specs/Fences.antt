@@ -1,5 +1,5 @@
 -- Where our fences and CommonMark's part: the named departures of docs/DIFFERENCES.md, each a test of the open fence and the line, and the theorems that there are no others and that each is one.
-use Rattle.std.specs.Prelude.{ℕ, ◌≤◌, Bool, true, false, not, ◌&&◌, ◌||◌, List, [], ◌∷◌, ◌++◌, ◌≡◌, eqb, leb, ltb, None, Option, Some}
+use Rattle.std.specs.Prelude.{ℕ, ◌≤◌, Bool, true, false, not, ◌&&◌, ◌||◌, List, [], ◌∷◌, ◌++◌, ◌≡◌, eqb, leb, ltb, None, Option, Some, is_some}
 use Rattle.text.specs.Bytes.{is, any}
 use Rattle.text.specs.Pattern.{bytes, starts_with}
 use Rattle.text.specs.Space.{lead, trim_start}
@@ -73,10 +73,6 @@ abbrev pub as_fence : Option CodeFence → Fence
 as_fence None = Outside
 as_fence (Some f) = kind_of_mark f.mark
 
-abbrev pub is_open : Option CodeFence → Bool
-is_open None = false
-is_open (Some f) = true
-
 -- an opener has three bytes or more
 abbrev pub IsFence : Option CodeFence → Type 0
 IsFence None = Unit {0}
@@ -89,8 +85,8 @@ SameFence =
 
 abbrev pub SameFlag : Type 0
 SameFlag =
-    (o : Option CodeFence) (st : State) (n at : ℕ) (l : List ℕ) → IsFence o → st.fence ≡ is_open o → scan_departs o (ended l) ≡ false
-    → (after st n at (kind_at st at l)).fence ≡ is_open (code_after o (ended l))
+    (o : Option CodeFence) (st : State) (n at : ℕ) (l : List ℕ) → IsFence o → st.fence ≡ is_some o → scan_departs o (ended l) ≡ false
+    → (after st n at (kind_at st at l)).fence ≡ is_some (code_after o (ended l))
 
 -- and where one of them holds, it is not
 abbrev pub OtherFence : Type 0
@@ -99,8 +95,8 @@ OtherFence =
 
 abbrev pub OtherFlag : Type 0
 OtherFlag =
-    (o : Option CodeFence) (st : State) (n at : ℕ) (l : List ℕ) → IsFence o → st.fence ≡ is_open o → scan_departs o (ended l) ≡ true
-    → (after st n at (kind_at st at l)).fence ≡ is_open (code_after o (ended l)) → ⊥
+    (o : Option CodeFence) (st : State) (n at : ℕ) (l : List ℕ) → IsFence o → st.fence ≡ is_some o → scan_departs o (ended l) ≡ true
+    → (after st n at (kind_at st at l)).fence ≡ is_some (code_after o (ended l)) → ⊥
 
 -- what is open behind a line stays one
 abbrev pub StaysFence : Type 0
@@ -130,7 +126,7 @@ abbrev pub OtherKindParts : Type 0
 OtherKindParts =
     (other_kind_closes (ticks 3) (bytes "~~~") ≡ true)
     × (((after (record { fence = true; region = None }) 2 4 (kind_at (record { fence = true; region = None }) 4 (bytes "~~~"))).fence ≡ false)
-    × (is_open (code_after (ticks 3) (bytes "~~~")) ≡ true))
+    × (is_some (code_after (ticks 3) (bytes "~~~")) ≡ true))
 
 -- lines on which none of them holds: openers, closers and others, outside and in a fence
 abbrev pub NoneHolds : Type 0

@@ -1,14 +1,10 @@
 -- Where our headings and CommonMark's part: the named departures of docs/DIFFERENCES.md, each a test of the line, and the theorems that there are no others and that each is one.
-use Rattle.std.specs.Prelude.{ℕ, Bool, true, false, ◌&&◌, ◌||◌, List, [], ◌∷◌, ◌++◌, ◌≡◌, length, drop, get_or, eqb, leb, Option, Some, None}
+use Rattle.std.specs.Prelude.{ℕ, Bool, true, false, ◌&&◌, ◌||◌, List, [], ◌∷◌, ◌++◌, ◌≡◌, length, drop, get_or, eqb, leb, Option, None, is_some}
 use Rattle.text.specs.Pattern.{bytes, starts_with}
 use Rattle.text.specs.Space.{is_space}
 use Rattle.heading.specs.Walk.{hashes, heading_of}
 use Rattle.commonmark.specs.Strip.{ended, strip, indent}
 use Rattle.commonmark.specs.Atx.{Atx, heading, atx, as_atx, is_closed}
-
-abbrev pub is_heading : Option Atx → Bool
-is_heading None = false
-is_heading (Some h) = true
 
 -- 1 to 6 hashes at column 0
 abbrev pub is_opened : List ℕ → Bool
@@ -24,7 +20,7 @@ is_ours l = is_opened l && starts_with (bytes " ") (behind l)
 
 -- one to three spaces before what is a heading of CommonMark's: none of ours
 abbrev pub indented : List ℕ → Bool
-indented l = leb 1 (indent l) && is_heading (atx l)
+indented l = leb 1 (indent l) && is_some (atx l)
 
 -- a tab after the hashes: a heading of CommonMark's, none of ours
 abbrev pub tab_after_hashes : List ℕ → Bool
