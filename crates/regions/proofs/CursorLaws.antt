@@ -24,6 +24,7 @@ use Rattle.scan.specs.Scan.{closed_by, events_of, after, kind_at, scan_from, reg
 use Rattle.scan.specs.Regions.{regions_from}
 use Rattle.scan.specs.declared.event.Region.{Region}
 use Rattle.scan.specs.declared.region.Cursor.{Cursor}
+use Rattle.scan.specs.declared.state.Opener.{Opener}
 use Rattle.scan.specs.declared.state.State.{State}
 use Rattle.scan.proofs.RegionLaws.{regions_append, line-none, last_none}
 use Rattle.regions.specs.Hosts.{LineFrom, blanked_at}

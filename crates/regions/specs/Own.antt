@@ -39,8 +39,8 @@ pub record OwnBefore (s : List ℕ) (c : Cursor) (w : Own) (g : Region) (d : Cur
   pub cursor : d ≡ cursor_behind s g
   pub own : v ≡ own_after w (lines_before s c g.opener.line)
 
-abbrev pub FoundOwn : List ℕ → Cursor → Own → Option (Region × (Cursor × Own)) → Type 0
-FoundOwn s c w (Some (g, (d, v))) = OwnBefore s c w g d v
+abbrev pub FoundOwn : List ℕ → Cursor → Own → Option (Region × Cursor × Own) → Type 0
+FoundOwn s c w (Some (g, d, v)) = OwnBefore s c w g d v
 FoundOwn s c w None = regions_from s c ≡ []
 
 -- 12, as a test
