@@ -12,7 +12,7 @@ use marker::span;
 use marker::span::{Mark, Stop};
 use scan::event::{Event, Span};
 use scan::state;
-use scan::state::State;
+use scan::state::{Opener, State};
 use text::part::Part;
 
 // Where what follows the spans of a line goes, and how their reading stopped.
@@ -23,6 +23,7 @@ pub struct Spans {
 }
 
 // The spans of line n, at place o: read left to right, stopping the line at its first problem.
+#[tactic(auto, using(crate::proofs::SpanLaws::reading))]
 fn put_spans(line: &[u8], o: usize, n: usize, log: &mut [usize], out: &mut [u8], at: To) -> Spans
     requires { o + length line.now < 2 ^ 64 }
     ensures out_after { sink result.to log.new out.new ≡ put_all (map Event.OfSpan (read_line n o line.now).spans) (sink at log.old out.old) }
@@ -31,15 +32,14 @@ fn put_spans(line: &[u8], o: usize, n: usize, log: &mut [usize], out: &mut [u8],
     let mut to = at;
     let mut i = 0;
     'markers: loop {
-        let mark = span::next_mark(&line[i..], o + i);
-        match mark {
+        match span::next_mark(&line[i..], o + i) {
             Mark::Marked {
                 spec_start,
                 spec_end,
                 text_start,
                 text_end,
             } => {
-                let x = Span {
+                let span = Span {
                     line: n,
                     spec: Part {
                         start: spec_start,
@@ -50,40 +50,41 @@ fn put_spans(line: &[u8], o: usize, n: usize, log: &mut [usize], out: &mut [u8],
                         end: text_end,
                     },
                 };
-                to = sink::put(log, out, to, Event::OfSpan(x));
+                to = sink::put(log, out, to, Event::OfSpan(span));
                 i = text_end + 10 - o;
             }
-            Mark::Problem(k) => {
-                break 'markers Spans {
-                    to,
-                    stop: Stop::AtProblem(k),
-                };
-            }
-            Mark::End => {
-                break 'markers Spans {
-                    to,
-                    stop: Stop::AtSpanEnd,
-                };
-            }
+            Mark::Problem(number) => return Spans {
+                to,
+                stop: Stop::AtProblem(number),
+            },
+            Mark::End => return Spans {
+                to,
+                stop: Stop::AtSpanEnd,
+            },
         }
     }
 }
 
 // The spans of line n and the problem that stopped their reading.
+#[tactic(auto, using(crate::proofs::SpanLaws::reading))]
 fn put_marked(line: &[u8], o: usize, n: usize, log: &mut [usize], out: &mut [u8], at: To) -> To
     requires { o + length line.now < 2 ^ 64 }
     ensures { sink result log.new out.new ≡ put_all (span_events n o line.now) (sink at log.old out.old) }
 {
     let spans = put_spans(line, o, n, log, out, at);
-    let to = spans.to;
-    let stop = spans.stop;
-    match stop {
-        Stop::AtProblem(number) => sink::put(log, out, to, Event::OfProblem { line: n, number }),
-        Stop::AtSpanEnd => to,
+    match spans.stop {
+        Stop::AtProblem(number) => sink::put(
+            log,
+            out,
+            spans.to,
+            Event::OfProblem { line: n, number },
+        ),
+        Stop::AtSpanEnd => spans.to,
     }
 }
 
 // The region that line n, at place o, closes.
+#[tactic(auto, unfolding(event_log::specs::Sink::put_all))]
 fn put_closed(
     region: Option<Opener>,
     n: usize,
@@ -101,6 +102,7 @@ fn put_closed(
 }
 
 // What line n, at place o and of a kind, gives.
+#[tactic(auto, using(crate::proofs::SpanLaws::reading), unfolding(scan::specs::Scan::events_of, event_log::specs::Sink::put_all))]
 pub fn put_line(
     state: State,
     n: usize,
@@ -115,18 +117,9 @@ pub fn put_line(
     ensures { sink result log.new out.new ≡ put_all (events_of state n o line.now kind) (sink at log.old out.old) }
 {
     match kind {
-        Kind::Plain => at,
-        Kind::Fence => at,
+        Kind::Plain | Kind::Fence | Kind::Opens { .. } => at,
         Kind::Fault(number) => sink::put(log, out, at, Event::OfProblem { line: n, number }),
-        Kind::Closes => {
-            let region = state.region;
-            put_closed(region, n, o, log, out, at)
-        }
-        Kind::Opens {
-            start: _,
-            end: _,
-            peer: _,
-        } => at,
+        Kind::Closes => put_closed(state.region, n, o, log, out, at),
         Kind::Spans(i) => put_marked(&line[i..], o + i, n, log, out, at),
     }
 }
