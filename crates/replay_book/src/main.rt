@@ -1,84 +1,22 @@
 #![tactic(auto)]
 
-// Makes the books of the stored cases of standard input and prints each answer: the six numbers, and the text if there is one.
-ghost use Rattle.std.specs.Prelude.{◌≤◌, length};
-ghost use Rattle.stored.specs.Case.{Small};
-
+// Makes the books of the stored cases of standard input, as a C caller does, and prints each answer: the six numbers, and the text if there is one.
 use std::io;
-use std::io::{Read, Write};
-use stored::case;
-use stored::case::{Case, Limits, Starts};
-
-// The loop over the cases has to end, and nothing says that the input does.
-const MOST_CASES: usize = 100_000;
-
-// Makes a book of what is handed in, as a C caller does, and prints the answer.
-fn book_given(
-    to: &mut impl Write,
-    given: &[u8],
-    at: Starts,
-    limits: Limits,
-    out: &mut [u8],
-    work: &mut [u8],
-) -> io::Result<()>
-    requires { (at.contents ≤ at.third) × ((at.third ≤ at.fourth) × ((at.fourth ≤ length given.now) × (limits.allowance ≤ 999999))) }
-{
-    let contents = at.contents;
-    let list = at.third;
-    let url = at.fourth;
-    let mut numbers = [0u64; 6];
-    jilgyemot::jilgyemot_book(
-        &given[..contents],
-        &given[contents..list],
-        &given[list..url],
-        &given[url..],
-        limits.limit as u64,
-        limits.allowance as u32,
-        out,
-        work,
-        &mut numbers,
-    );
-    case::print_numbers(to, numbers, out)
-}
-
-// A case, with an output and a work buffer of zeros.
-fn replay_case(to: &mut impl Write, given: &[u8], at: Starts, limits: Limits) -> io::Result<()>
-    requires { Small at limits × (16384 ≤ length given.now) }
-{
-    let end = at.end;
-    let room = limits.out;
-    let size = limits.work;
-    let mut out = [0u8; 65536];
-    let mut work = [0u8; 65536];
-    book_given(
-        to,
-        &given[..end],
-        at,
-        limits,
-        &mut out[..room],
-        &mut work[..size],
-    )
-}
-
-// Answers whether to go on: not at the input's end or after an ill-formed case.
-fn replay_next(from: &mut impl Read, to: &mut impl Write) -> io::Result<bool> {
-    let mut given = case::given_buffer();
-    match case::read_case(from, to, &mut given)? {
-        Some(Case { at, limits }) => {
-            replay_case(to, &given, at, limits)?;
-            Ok(true)
-        }
-        None => Ok(false),
-    }
-}
 
 fn main(rt: HostRuntime) -> io::Result<()> {
-    let mut from = rt.stdin();
-    let mut to = io::writer(&rt);
-    for _ in 0..MOST_CASES {
-        if !replay_next(&mut from, &mut to)? {
-            break;
-        }
-    }
-    Ok(())
+    stored::case::replay(&mut rt.stdin(), &mut io::writer(&rt), |case, out, work| {
+        let mut numbers = [0u64; 6];
+        jilgyemot::jilgyemot_book(
+            case.index,
+            case.contents,
+            case.third,
+            case.fourth,
+            case.limit as u64,
+            case.allowance,
+            out,
+            work,
+            &mut numbers,
+        );
+        numbers
+    })
 }

@@ -1,185 +1,149 @@
-// A stored case of a call with a walk: index, contents and two more texts, the limits, and the sizes of output and work.
-ghost use Rattle.std.specs.Prelude.{◌≡◌, ◌≤◌, length, IfOk};
-ghost use Rattle.stored.specs.Case.{InOrder, Small, SmallCase};
-
+// Stored cases of a call with a walk, replayed: index, contents and two more texts, the limits, and the sizes of output and work.
 use crate::{header, print};
-use answer::{Answer, Refusal};
 use std::io;
 use std::io::{Read, Write};
 
-// The four texts together.
-const MOST_GIVEN: usize = 16_384;
+// The loop over the cases has to end, and nothing says that the input does.
+const MOST_CASES: usize = 100_000;
 
-// An output, or a work buffer.
-const MOST_ROOM: usize = 65_536;
-
-// Six digits, as many as a header has for it.
-const MOST_ALLOWANCE: usize = 999_999;
-
-// Where contents, third and fourth text start in what is handed in, and where that ends.
+// What a call is handed, but for its output and work buffer.
 #[derive(Clone, Copy)]
-pub struct Starts {
-    pub contents: usize,
-    pub third: usize,
-    pub fourth: usize,
-    pub end: usize,
-}
-
-#[derive(Clone, Copy)]
-pub struct Limits {
+pub struct Case<'a> {
+    pub index: &'a [u8],
+    pub contents: &'a [u8],
+    pub third: &'a [u8],
+    pub fourth: &'a [u8],
     pub limit: usize,
-    pub allowance: usize,
-    pub out: usize,
-    pub work: usize,
+    pub allowance: u32,
 }
 
-// A case, or that there is none: at the input's end, or where it is ill formed or too large, which is printed.
+// The numbers of a case's headers: the lengths of its texts, the limits, and the sizes of output and work.
 #[derive(Clone, Copy)]
-pub struct Case {
-    pub at: Starts,
-    pub limits: Limits,
+struct Sizes {
+    index: usize,
+    contents: usize,
+    third: usize,
+    fourth: usize,
+    limit: usize,
+    allowance: usize,
+    out: usize,
+    work: usize,
 }
 
-fn ill_formed(to: &mut impl Write) -> io::Result<Option<Case>>
-    ensures { IfOk result SmallCase }
-{
-    crate::print_ill_formed(to)?;
-    Ok(None)
+// The numbers of four headers, if they are well formed.
+fn sizes_of(bytes: &[u8; 56]) -> Option<Sizes> {
+    let (index, contents) = header::parse(&bytes[..14])?;
+    let (third, fourth) = header::parse(&bytes[14..28])?;
+    let (limit, allowance) = header::parse(&bytes[28..42])?;
+    let (out, work) = header::parse(&bytes[42..])?;
+    Some(Sizes {
+        index,
+        contents,
+        third,
+        fourth,
+        limit,
+        allowance,
+        out,
+        work,
+    })
 }
 
-// Zeros for what is handed in. The `ensures` gives only the length, which lending a part of it needs.
-pub fn given_buffer() -> [u8; 16384]
-    ensures { 16384 ≡ length result }
-{
-    [0; 16384]
-}
-
-// Reads what is handed in, and answers whether all of it was there.
-fn read_given(from: &mut impl Read, to: &mut impl Write, given: &mut [u8]) -> io::Result<bool> {
-    let filled = crate::is_filled(from, given)?;
-    if !filled {
-        crate::print_ill_formed(to)?;
-    }
-    Ok(filled)
+// The case whose texts stand one behind the other, where all of it fits.
+fn case_of(given: &[u8], sizes: Sizes) -> Option<Case<'_>> {
+    let (index, rest) = given.split_at_checked(sizes.index)?;
+    let (contents, rest) = rest.split_at_checked(sizes.contents)?;
+    let (third, rest) = rest.split_at_checked(sizes.third)?;
+    let fourth = rest.get(..sizes.fourth)?;
+    Some(Case {
+        index,
+        contents,
+        third,
+        fourth,
+        limit: sizes.limit,
+        allowance: u32::try_from(sizes.allowance).ok()?,
+    })
 }
 
 // Prints the six numbers of an answer, and its text and LF where there is one.
-pub fn print_numbers(to: &mut impl Write, numbers: [u64; 6], out: &[u8]) -> io::Result<()> {
+fn print_answer(to: &mut impl Write, numbers: [u64; 6], out: &[u8]) -> io::Result<()> {
     print::numbers(to, numbers)?;
     if numbers[0] == 0 {
-        let length = numbers[1] as usize;
-        if length <= out.len() {
-            to.write_all(&out[..length])?;
+        if let Some(text) = out.get(..numbers[1] as usize) {
+            to.write_all(text)?;
             to.write_all(b"\n")?;
         }
     }
     Ok(())
 }
 
-pub fn print_answer(to: &mut impl Write, a: Result<Answer, Refusal>, out: &[u8]) -> io::Result<()> {
-    print_numbers(to, answer::numbers(a), out)
-}
-
-// Past all memory.
-fn too_long() -> Starts
-    ensures { InOrder result }
+// Reads the texts of a case, makes its call in buffers of zeros, and prints the answer. Answers whether the case was well formed and all there.
+fn replay_texts<F: Fn(Case<'_>, &mut [u8], &mut [u8]) -> [u64; 6]>(
+    from: &mut impl Read,
+    to: &mut impl Write,
+    sizes: Sizes,
+    call: &F,
+) -> io::Result<bool>
+    requires { F.IsAlwaysCallable call.now }
 {
-    Starts {
-        contents: 0,
-        third: 0,
-        fourth: 0,
-        end: MOST_GIVEN + 1,
+    let mut given = [0u8; 16384];
+    let mut out = [0u8; 65536];
+    let mut work = [0u8; 65536];
+    let end = sizes
+        .index
+        .saturating_add(sizes.contents)
+        .saturating_add(sizes.third)
+        .saturating_add(sizes.fourth);
+    let Some(filled) = given.get_mut(..end) else {
+        return Ok(false);
+    };
+    if !crate::is_filled(from, filled)? {
+        return Ok(false);
     }
+    let Some(case) = case_of(&given, sizes) else {
+        return Ok(false);
+    };
+    let (Some(out), Some(work)) = (out.get_mut(..sizes.out), work.get_mut(..sizes.work)) else {
+        return Ok(false);
+    };
+    let numbers = call(case, out, work);
+    print_answer(to, numbers, out)?;
+    Ok(true)
 }
 
-// Where the texts start that have these lengths.
-fn starts_of(index: usize, contents: usize, third: usize, fourth: usize) -> Starts
-    ensures { InOrder result }
-{
-    if MOST_GIVEN < index {
-        return too_long();
-    }
-    if MOST_GIVEN < contents {
-        return too_long();
-    }
-    if MOST_GIVEN < third {
-        return too_long();
-    }
-    if MOST_GIVEN < fourth {
-        return too_long();
-    }
-    Starts {
-        contents: index,
-        third: index + contents,
-        fourth: index + contents + third,
-        end: index + contents + third + fourth,
-    }
-}
-
-// A case, if there is memory for it.
-fn small_case(to: &mut impl Write, at: Starts, limits: Limits) -> io::Result<Option<Case>>
-    requires { InOrder at }
-    ensures { IfOk result SmallCase }
-{
-    if MOST_GIVEN < at.end {
-        return ill_formed(to);
-    }
-    if MOST_ROOM < limits.out {
-        return ill_formed(to);
-    }
-    if MOST_ROOM < limits.work {
-        return ill_formed(to);
-    }
-    if MOST_ALLOWANCE < limits.allowance {
-        return ill_formed(to);
-    }
-    Ok(Some(Case { at, limits }))
-}
-
-// Reads four headers.
-fn next_case(from: &mut impl Read, to: &mut impl Write) -> io::Result<Option<Case>>
-    ensures { IfOk result SmallCase }
+// Replays a case. Answers whether to go on: not at the input's end or after an ill-formed case, which is printed.
+fn replay_next<F: Fn(Case<'_>, &mut [u8], &mut [u8]) -> [u64; 6]>(
+    from: &mut impl Read,
+    to: &mut impl Write,
+    call: &F,
+) -> io::Result<bool>
+    requires { F.IsAlwaysCallable call.now }
 {
     let mut bytes = [0u8; 56];
     if !crate::is_filled(from, &mut bytes)? {
-        return Ok(None);
+        return Ok(false);
     }
-    let Some((index, contents)) = header::parse(&bytes[..14]) else {
-        return ill_formed(to);
+    let replayed = match sizes_of(&bytes) {
+        Some(sizes) => replay_texts(from, to, sizes, call)?,
+        None => false,
     };
-    let Some((third, fourth)) = header::parse(&bytes[14..28]) else {
-        return ill_formed(to);
-    };
-    let Some((limit, allowance)) = header::parse(&bytes[28..42]) else {
-        return ill_formed(to);
-    };
-    let Some((out, work)) = header::parse(&bytes[42..]) else {
-        return ill_formed(to);
-    };
-    let limits = Limits {
-        limit,
-        allowance,
-        out,
-        work,
-    };
-    small_case(to, starts_of(index, contents, third, fourth), limits)
+    if !replayed {
+        crate::print_ill_formed(to)?;
+    }
+    Ok(replayed)
 }
 
-// Reads a case: its headers, and what is handed in, to the front of a buffer.
-pub fn read_case(
+// Replays the stored cases of an input by a call, and prints the answer of each.
+pub fn replay<F: Fn(Case<'_>, &mut [u8], &mut [u8]) -> [u64; 6]>(
     from: &mut impl Read,
     to: &mut impl Write,
-    given: &mut [u8],
-) -> io::Result<Option<Case>>
-    requires { 16384 ≤ length given.old }
-    ensures { IfOk result SmallCase }
+    call: F,
+) -> io::Result<()>
+    requires { F.IsAlwaysCallable call }
 {
-    let Some(Case { at, limits }) = next_case(from, to)? else {
-        return Ok(None);
-    };
-    let end = at.end;
-    if !read_given(from, to, &mut given[..end])? {
-        return Ok(None);
+    for _ in 0..MOST_CASES {
+        if !replay_next(from, to, &call)? {
+            break;
+        }
     }
-    Ok(Some(Case { at, limits }))
+    Ok(())
 }

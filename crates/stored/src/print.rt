@@ -10,8 +10,8 @@ pub fn tabbed(to: &mut impl Write, number: u64) -> io::Result<()> {
 pub fn numbers(to: &mut impl Write, numbers: [u64; 6]) -> io::Result<()> {
     let [first, ..] = numbers;
     write!(to, "{first}")?;
-    for i in 1..6 {
-        tabbed(to, numbers[i])?;
+    for number in &numbers[1..] {
+        tabbed(to, *number)?;
     }
     to.write_all(b"\n")
 }
