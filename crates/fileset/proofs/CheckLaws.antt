@@ -21,7 +21,7 @@ use Rattle.fileset.specs.Members.{names, is_list, absent_from, members_from}
 use Rattle.fileset.specs.Check.{records_checked, index_checked, refuse_sizes, head_checked, list_checked, fill_checked, book_checked, counted, Passes, HeadWithin, HeadRead, Read, Listed}
 
 -- what a number of records tells, and a refusal
-counted-passed : (c : Result (Unit {0}) Refusal) {n m : ℕ} → Ok n ≡ counted c m → (c ≡ (Ok tt)) × (n ≡ m)
+counted-passed : (c : Result (Unit {0}) Refusal) {n m : ℕ} → Ok n ≡ counted c m → (c ≡ Ok tt) × (n ≡ m)
 counted-passed (Ok tt) e = (refl, cc)
 counted-passed (Err r) e = let z : ◌≡◌ {A = ℕ} 0 1 = cc in absurd (omega arith)
 
@@ -79,7 +79,7 @@ module _ (index contents text name : List ℕ) {k : Result ℕ Refusal} (i : k �
   head_index e = e ∙ rw (counted_refused (index_checked index contents) (length (records index)) (sym e ∙ i))
 
   module _ {n : ℕ} (good : k ≡ Ok n) {h : ℕ} (host : h ≡ wide_line 1 text) where
-    passed : index_checked index contents ≡ (Ok tt)
+    passed : index_checked index contents ≡ Ok tt
     passed = (counted-passed (index_checked index contents) (sym good ∙ i)).0
 
     pub head_host : (h ≡ 0 → ⊥) → Err (WideByte (place 0 h)) ≡ counted (head_checked index contents text name) (length (records index))
@@ -117,7 +117,7 @@ module _ (n m limit out work : ℕ) where
         pub sizes-work : work < (n + m + 2) * limit → Err Sizes ≡ refuse_sizes n m limit out work
         sizes-work h = rw (le-leb 1 limit low, le-leb limit 1048576 high, le-leb limit out room, lt-leb ((n + m + 2) * limit) work h)
 
-        pub sizes_good : (n + m + 2) * limit ≤ work → (Ok tt) ≡ refuse_sizes n m limit out work
+        pub sizes_good : (n + m + 2) * limit ≤ work → Ok tt ≡ refuse_sizes n m limit out work
         sizes_good h = rw (le-leb 1 limit low, le-leb limit 1048576 high, le-leb limit out room, le-leb ((n + m + 2) * limit) work h)
 
 -- refusals 7, 8 and 14, by what the calls answer
@@ -130,11 +130,11 @@ module _ (rs : List Record) (list : List ℕ) (limit out work : ℕ) where
     pub list_sizes : {r : Refusal} → z ≡ Err r → z ≡ list_checked rs list limit out work
     list_sizes h = h ∙ rw (e, ← counts, ← lines, ← sized, h)
 
-    module _ (good : z ≡ (Ok tt)) {q : ℕ} (absent : q ≡ absent_from 1 rs (names list)) where
+    module _ (good : z ≡ Ok tt) {q : ℕ} (absent : q ≡ absent_from 1 rs (names list)) where
       pub list_absent : (q ≡ 0 → ⊥) → Err (Absent (place 0 q)) ≡ list_checked rs list limit out work
       list_absent t = rw (e, ← absent, ← counts, ← lines, ← sized, good, ne_eqb q 0 t)
 
-      pub list_passed : q ≡ 0 → (Ok tt) ≡ list_checked rs list limit out work
+      pub list_passed : q ≡ 0 → Ok tt ≡ list_checked rs list limit out work
       list_passed t = rw (e, ← absent, ← counts, ← lines, ← sized, good, t)
 
 -- a fill, and an assembly or a book, by the refusals up to 6 and those behind
