@@ -6,6 +6,7 @@ use native.Mathlib.Omega.{arith}
 use mathlib.Core.Path.{◌≡◌, ap, ◌∙◌}
 use mathlib.Core.List.{List, ◌++◌, append_assoc}
 use lib.ListN.{length, drop}
+use Rattle.text.specs.declared.part.Part.{Part}
 use Rattle.text.specs.Bytes.{part}
 use Rattle.text.proofs.BytesLaws.{part_full}
 use Rattle.text.proofs.PartLaws.{part_join, part-rest, part-drop}
@@ -26,19 +27,19 @@ module _ {host dir l : List ℕ} {from i : ℕ} (p : Passed host dir l from i) w
   pub passed_none : FoundLink l i None → FoundCut host dir l from None
   passed_none h = p.same ∙ rw (h (anchor_self host dir)) (part-rest l from i p.order)
 
-  module _ (a e n : ℕ) (h : FoundLink l i (Some (record { start = a; end = e }))) (t : drop n (part a e l) ≡ anchor_self host dir (part a e l)) where
-    found : linked_text host dir (drop from l) ≡ part from a l ++ (drop n (part a e l) ++ linked_text host dir (drop e l))
+  module _ {link : Part} (n : ℕ) (h : FoundLink l i (Some link)) (t : drop n (part link.start link.end l) ≡ anchor_self host dir (part link.start link.end l)) where
+    found : linked_text host dir (drop from l) ≡ part from link.start l ++ (drop n (part link.start link.end l) ++ linked_text host dir (drop link.end l))
     found =
         p.same
-        ∙ rw (h.1 (anchor_self host dir), ← t, ← append_assoc (part from i l) (part i a l) (drop n (part a e l) ++ linked_text host dir (drop e l)))
-        (ap (λ (x : List ℕ). x ++ (drop n (part a e l) ++ linked_text host dir (drop e l))) (part_join l from i a p.order h.0.0))
+        ∙ rw (h.1 (anchor_self host dir), ← t, ← append_assoc (part from i l) (part i link.start l) (drop n (part link.start link.end l) ++ linked_text host dir (drop link.end l)))
+        (ap (λ (x : List ℕ). x ++ (drop n (part link.start link.end l) ++ linked_text host dir (drop link.end l))) (part_join l from i link.start p.order h.0.0))
 
-    pub passed_on : n ≡ 0 → Passed host dir l from e
+    pub passed_on : n ≡ 0 → Passed host dir l from link.end
     passed_on z = record { order = omega (arith, p.order, h.0.0, h.0.1.0); within = omega (arith, h.0.1.1); same = same }
       where
-        same : linked_text host dir (drop from l) ≡ part from e l ++ linked_text host dir (drop e l)
-        same = found ∙ rw (z, ← append_assoc (part from a l) (part a e l) (linked_text host dir (drop e l)), part_join l from a e (omega (arith, p.order, h.0.0)) h.0.1.0)
+        same : linked_text host dir (drop from l) ≡ part from link.end l ++ linked_text host dir (drop link.end l)
+        same = found ∙ rw (z, ← append_assoc (part from link.start l) (part link.start link.end l) (linked_text host dir (drop link.end l)), part_join l from link.start link.end (omega (arith, p.order, h.0.0)) h.0.1.0)
 
-    pub passed-cut : 0 < n → n ≤ length (part a e l) → FoundCut host dir l from (Some (record { start = a; end = a + n; next = e }))
+    pub passed-cut : 0 < n → n ≤ length (part link.start link.end l) → FoundCut host dir l from (Some (record { start = link.start; end = link.start + n; next = link.end }))
     passed-cut z k =
-        ((omega (arith, p.order, h.0.0), (omega arith, (omega (arith, part_full l a e (omega (arith, h.0.1.1)), h.0.1.0), omega (arith, h.0.1.1)))), found ∙ rw (part-drop l a e n))
+        ((omega (arith, p.order, h.0.0), (omega arith, (omega (arith, part_full l link.start link.end (omega (arith, h.0.1.1)), h.0.1.0), omega (arith, h.0.1.1)))), found ∙ rw (part-drop l link.start link.end n))

@@ -9,6 +9,7 @@ use Rattle.text.specs.Bytes.{part}
 use Rattle.text.proofs.BytesLaws.{rest}
 use Rattle.put.specs.Put.{source_text, Able, Written, Wrote}
 use Rattle.self_links.specs.Cuts.{linked_text, FoundCut}
+use Rattle.self_links.specs.declared.cut.Cut.{Cut}
 use Rattle.put.specs.declared.Source.{Source}
 use Rattle.put.specs.declared.Room.{Room}
 use Rattle.put.proofs.PutLaws.{Reached, room_at, reached_start, reached_next, reached_over, reached_last, source-length, source-same, able_on}
@@ -35,28 +36,28 @@ module _ {source : Source} {room : Room} {c w : List ℕ} (able : Able source ro
         reached_last p.reached u r (subst (λ (x : List ℕ). Wrote (room_at room at) x v u r) t h)
 
     -- bytes go: what stands before them is put, and then what follows them up to the place from which the rest goes on
-    module _ (a e n : ℕ) (f : FoundCut host dir (source_text source c v) i (Some (record { start = a; end = e; next = n }))) where
-      cut : FoundCut host dir (source_text source c w) i (Some (record { start = a; end = e; next = n }))
-      cut = subst (λ (x : List ℕ). FoundCut host dir x i (Some (record { start = a; end = e; next = n }))) same f
+    module _ {cut : Cut} (f : FoundCut host dir (source_text source c v) i (Some cut)) where
+      found : FoundCut host dir (source_text source c w) i (Some cut)
+      found = subst (λ (x : List ℕ). FoundCut host dir x i (Some cut)) same f
 
-      pub cut_bounds : (i ≤ a) × ((a < e) × ((e ≤ n) × (n ≤ source.end - source.start)))
-      cut_bounds = (cut.0.0, (cut.0.1.0, (cut.0.1.1.0, omega (arith, source-length able, cut.0.1.1.1))))
+      pub cut_bounds : (i ≤ cut.start) × ((cut.start < cut.end) × ((cut.end ≤ cut.next) × (cut.next ≤ source.end - source.start)))
+      cut_bounds = (found.0.0, (found.0.1.0, (found.0.1.1.0, omega (arith, source-length able, found.0.1.1.1))))
 
-      pub cut_over : room.limit < at + length (part i a (source_text source c v)) → room.limit < room.at + length (linked_text host dir (source_text source c w))
-      cut_over h = reached_over p.reached (part i a (source_text source c w)) _ cut.1 (rw same at h)
+      pub cut_over : room.limit < at + length (part i cut.start (source_text source c v)) → room.limit < room.at + length (linked_text host dir (source_text source c w))
+      cut_over h = reached_over p.reached (part i cut.start (source_text source c w)) _ found.1 (rw same at h)
 
-      module _ (u : List ℕ) (m : ℕ) (h : Written (room_at room at) (part i a (source_text source c v)) v u m) where
-        before : Reached room (linked_text host dir (source_text source c w)) w u m (part e n (source_text source c w) ++ linked_text host dir (drop n (source_text source c w)))
-        before = reached_next p.reached (part i a (source_text source c w)) _ cut.1 u m (rw same at h)
+      module _ (u : List ℕ) (m : ℕ) (h : Written (room_at room at) (part i cut.start (source_text source c v)) v u m) where
+        before : Reached room (linked_text host dir (source_text source c w)) w u m (part cut.end cut.next (source_text source c w) ++ linked_text host dir (drop cut.next (source_text source c w)))
+        before = reached_next p.reached (part i cut.start (source_text source c w)) _ found.1 u m (rw same at h)
 
         pub cut_able : Able source (room_at room m) c u
         cut_able = able_on able before
 
-        pub cut-after_over : room.limit < m + length (part e n (source_text source c u)) → room.limit < room.at + length (linked_text host dir (source_text source c w))
-        cut-after_over k = reached_over before (part e n (source_text source c w)) _ refl (rw (source-same able before) at k)
+        pub cut-after_over : room.limit < m + length (part cut.end cut.next (source_text source c u)) → room.limit < room.at + length (linked_text host dir (source_text source c w))
+        cut-after_over k = reached_over before (part cut.end cut.next (source_text source c w)) _ refl (rw (source-same able before) at k)
 
-        pub cutting_on : (t : List ℕ) (k : ℕ) → Written (room_at room m) (part e n (source_text source c u)) u t k → Cutting host dir source room c w t k n
+        pub cutting_on : (t : List ℕ) (k : ℕ) → Written (room_at room m) (part cut.end cut.next (source_text source c u)) u t k → Cutting host dir source room c w t k cut.next
         cutting_on t k q = record {
           within = cut_bounds.1.1.1;
-          reached = reached_next before (part e n (source_text source c w)) _ refl t k (rw (source-same able before) at q);
+          reached = reached_next before (part cut.end cut.next (source_text source c w)) _ refl t k (rw (source-same able before) at q);
         }

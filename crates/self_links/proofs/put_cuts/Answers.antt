@@ -18,29 +18,29 @@ returns c = cutting_end c.requires c.loop-cut.invariant (rw c.bytes.ensures.text
 
 pub put_part-requires : goal.put_part-requires
 put_part-requires c =
-    let b = cut_bounds c.requires c.loop-cut.invariant c.in-Some.cut.start c.in-Some.cut.end c.in-Some.cut.next (rw c.bytes.ensures.text at c.in-Some.ensures) in
+    let b = cut_bounds c.requires c.loop-cut.invariant (rw c.bytes.ensures.text at c.in-Some.ensures) in
     (able_on c.requires c.loop-cut.invariant.reached, (b.0, omega (arith, b, c.requires.inside.0)))
 
 pub returns-in_err-m : goal.returns-in_err-m
 returns-in_err-m c =
     rw c.from_residual.ensures
-    (cut_over c.requires c.loop-cut.invariant c.in-Some.cut.start c.in-Some.cut.end c.in-Some.cut.next (rw c.bytes.ensures.text at c.in-Some.ensures) c.in_err-m.ensures)
+    (cut_over c.requires c.loop-cut.invariant (rw c.bytes.ensures.text at c.in-Some.ensures) c.in_err-m.ensures)
 
 pub put_part-requires-in-Some : goal.put_part-requires-in-Some
 put_part-requires-in-Some c =
     let f = rw c.bytes.ensures.text at c.in-Some.ensures in
-    let b = cut_bounds c.requires c.loop-cut.invariant c.in-Some.cut.start c.in-Some.cut.end c.in-Some.cut.next f in
-    (cut_able c.requires c.loop-cut.invariant c.in-Some.cut.start c.in-Some.cut.end c.in-Some.cut.next f _ _ c.in_ok-m.ensures, (b.1.1.0, omega (arith, b, c.requires.inside.0)))
+    let b = cut_bounds c.requires c.loop-cut.invariant f in
+    (cut_able c.requires c.loop-cut.invariant f _ _ c.in_ok-m.ensures, (b.1.1.0, omega (arith, b, c.requires.inside.0)))
 
 pub returns-in_err-at : goal.returns-in_err-at
 returns-in_err-at c =
     rw c.from_residual-in_err-at.ensures
-    (cut-after_over c.requires c.loop-cut.invariant c.in-Some.cut.start c.in-Some.cut.end c.in-Some.cut.next (rw c.bytes.ensures.text at c.in-Some.ensures) _ _ c.in_ok-m.ensures c.in_err-at.ensures)
+    (cut-after_over c.requires c.loop-cut.invariant (rw c.bytes.ensures.text at c.in-Some.ensures) _ _ c.in_ok-m.ensures c.in_err-at.ensures)
 
 pub loop-cut-smaller : goal.loop-cut-smaller
 loop-cut-smaller c =
-    omega (arith, cut_bounds c.requires c.loop-cut.invariant c.in-Some.cut.start c.in-Some.cut.end c.in-Some.cut.next (rw c.bytes.ensures.text at c.in-Some.ensures))
+    omega (arith, cut_bounds c.requires c.loop-cut.invariant (rw c.bytes.ensures.text at c.in-Some.ensures))
 
 pub loop-cut-preserved : goal.loop-cut-preserved
 loop-cut-preserved c =
-    cutting_on c.requires c.loop-cut.invariant c.in-Some.cut.start c.in-Some.cut.end c.in-Some.cut.next (rw c.bytes.ensures.text at c.in-Some.ensures) _ _ c.in_ok-m.ensures _ _ c.in_ok-at.ensures
+    cutting_on c.requires c.loop-cut.invariant (rw c.bytes.ensures.text at c.in-Some.ensures) _ _ c.in_ok-m.ensures _ _ c.in_ok-at.ensures

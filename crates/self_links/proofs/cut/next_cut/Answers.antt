@@ -21,8 +21,7 @@ overflow_add-result c =
 
 pub returns-then-n-gt0 : goal.returns-then-n-gt0
 returns-then-n-gt0 c =
-    let h = c.in-Some.ensures in
-    passed-cut c.loop-link.invariant c.in-Some.link.start c.in-Some.link.end c.anchor_self-n.result h c.anchor_self-n.ensures.0 (omega arith) c.anchor_self-n.ensures.1
+    passed-cut c.loop-link.invariant c.anchor_self-n.result c.in-Some.ensures c.anchor_self-n.ensures.0 (omega arith) c.anchor_self-n.ensures.1
 
 pub loop-link-smaller : goal.loop-link-smaller
 loop-link-smaller c =
@@ -31,5 +30,4 @@ loop-link-smaller c =
 
 pub loop-link-preserved : goal.loop-link-preserved
 loop-link-preserved c =
-    let h = c.in-Some.ensures in
-    passed_on c.loop-link.invariant c.in-Some.link.start c.in-Some.link.end c.anchor_self-n.result h c.anchor_self-n.ensures.0 (omega arith)
+    passed_on c.loop-link.invariant c.anchor_self-n.result c.in-Some.ensures c.anchor_self-n.ensures.0 (omega arith)
