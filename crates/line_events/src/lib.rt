@@ -53,14 +53,18 @@ fn put_spans(line: &[u8], o: usize, n: usize, log: &mut [usize], out: &mut [u8],
                 to = sink::put(log, out, to, Event::OfSpan(span));
                 i = text_end + 10 - o;
             }
-            Mark::Problem(number) => return Spans {
-                to,
-                stop: Stop::AtProblem(number),
-            },
-            Mark::End => return Spans {
-                to,
-                stop: Stop::AtSpanEnd,
-            },
+            Mark::Problem(number) => {
+                break 'markers Spans {
+                    to,
+                    stop: Stop::AtProblem(number),
+                };
+            }
+            Mark::End => {
+                break 'markers Spans {
+                    to,
+                    stop: Stop::AtSpanEnd,
+                };
+            }
         }
     }
 }
