@@ -31,6 +31,7 @@ use Rattle.scan.specs.declared.event.Event.{Event}
 use Rattle.scan.specs.declared.event.Event.TheVariants.{OfSpan, OfRegion, OfProblem}
 use Rattle.scan.specs.declared.event.Region.{Region}
 use Rattle.scan.specs.declared.event.Span.{Span}
+use Rattle.scan.specs.declared.state.Opener.{Opener}
 use Rattle.scan.specs.declared.state.State.{State}
 use Rattle.scan.proofs.ScanLaws.{sought_line, sought_end}
 use Rattle.index.specs.Index.{File, file_of}

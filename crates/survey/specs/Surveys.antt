@@ -8,6 +8,7 @@ use Rattle.marker.specs.declared.line.Kind.{Kind}
 use Rattle.marker.specs.declared.line.Kind.TheVariants.{Plain, Fence, Fault, Closes, Opens, Spans}
 use Rattle.scan.specs.declared.event.Event.{Event}
 use Rattle.scan.specs.declared.event.Event.TheVariants.{OfSpan, OfRegion, OfProblem}
+use Rattle.scan.specs.declared.state.Opener.{Opener}
 use Rattle.regions.specs.Regions.{Scanned, problem, noRegion, regions, refusal_of}
 use Rattle.survey.specs.declared.Surveyed.{Surveyed}
 use Rattle.survey.specs.declared.Surveyed.TheVariants.{NoRegion, Regions}

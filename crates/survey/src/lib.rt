@@ -9,6 +9,7 @@ ghost use Rattle.survey.specs.Surveys.{survey_of, fault_of, closes as closes_by,
 use answer::{Place, Refusal};
 use marker::line::Kind;
 use scan::seek::LineAt;
+use scan::state::Opener;
 use scan::{seek, state};
 
 #[derive(Clone, Copy)]
