@@ -55,10 +55,7 @@ pub fn first() -> LineCursor
 fn last_end(old: usize, at: usize, end: usize) -> usize
     ensures { result ≡ cond (ltb at end) end old }
 {
-    if at < end {
-        return end;
-    }
-    old
+    if at < end { end } else { old }
 }
 
 // The line that starts at a place, by its first byte. In an unlinked one no `]` stands.
@@ -66,20 +63,18 @@ fn still_line(s: &[u8], at: usize, unlinked: bool) -> Option<usize>
     requires { at < length s.now }
     ensures { FoundStill s.now at unlinked result }
 {
-    let b = s[at];
-    if b == b'\n' {
+    let first = s[at];
+    if first == b'\n' {
         return Some(at);
     }
-    if heading::walk::may_begin(b) {
+    if heading::walk::may_begin(first) {
         return None;
     }
-    let e = bytes::find_byte(s, at, b'\n');
-    if unlinked {
-        if bytes::has(&s[at..e], b']') {
-            return None;
-        }
+    let end = bytes::find_byte(s, at, b'\n');
+    if unlinked && bytes::has(&s[at..end], b']') {
+        return None;
     }
-    Some(e)
+    Some(end)
 }
 
 // Passes over such lines from a cursor on, where lines that are not blank ended at a place before.
@@ -87,22 +82,21 @@ pub fn pass(s: &[u8], from: LineCursor, end: usize, unlinked: bool) -> Passed
     requires { CursorIn from s.now }
     ensures { PassedOver s.now from end unlinked result }
 {
-    let state = from.state;
-    let mut at = from.at;
-    let mut line = from.line;
-    let mut last = end;
+    let LineCursor {
+        mut at,
+        mut line,
+        state,
+    } = from;
     if state.comment {
         return Passed { behind: from, end };
     }
+    let mut last = end;
     while at < s.len() {
-        let Some(e) = still_line(s, at, unlinked) else {
-            return Passed {
-                behind: LineCursor { at, line, state },
-                end: last,
-            };
+        let Some(stop) = still_line(s, at, unlinked) else {
+            break;
         };
-        last = last_end(last, at, e);
-        at = e + 1;
+        last = last_end(last, at, stop);
+        at = stop + 1;
         line += 1;
     }
     Passed {
@@ -116,31 +110,26 @@ pub fn next_line(s: &[u8], from: LineCursor) -> Option<KeptLine>
     requires { CursorIn from s.now }
     ensures { FoundLine s.now from result }
 {
-    let line = from.line + 1;
-    let state = from.state;
-    let mut a = from.at;
+    let mut start = from.at;
     let mut within = false;
-    while a <= s.len() {
-        let p = lines::piece(s, a);
-        let e = p.end;
-        within = contents::drops(within, &s[a..e]);
+    while start <= s.len() {
+        let end = lines::piece(s, start).end;
+        let text = &s[start..end];
+        within = contents::drops(within, text);
         if !within {
-            let w = heading::walk::step(state, &s[a..e]);
-            let kind = w.kind;
-            let after = w.state;
-            let behind = LineCursor {
-                at: e + 1,
-                line,
-                state: after,
-            };
+            let step = heading::walk::step(from.state, text);
             return Some(KeptLine {
-                start: a,
-                end: e,
-                kind,
-                behind,
+                start,
+                end,
+                kind: step.kind,
+                behind: LineCursor {
+                    at: end + 1,
+                    line: from.line + 1,
+                    state: step.state,
+                },
             });
         }
-        a = e + 1;
+        start = end + 1;
     }
     None
 }
@@ -150,28 +139,17 @@ pub fn next_heading(s: &[u8], from: LineCursor) -> Option<KeptHeading>
     requires { CursorIn from s.now }
     ensures { FoundHeading s.now from result }
 {
-    let mut c = from;
-    loop {
-        let passed = pass(s, c, 0, false);
-        let Some(
-            KeptLine {
-                start: a,
-                end: _,
-                kind,
-                behind,
-            },
-        ) = next_line(s, passed.behind)
-        else {
-            return None;
-        };
-        if let LineKind::Heading { level, start, end } = kind {
+    let mut cursor = from;
+    while let Some(line) = next_line(s, pass(s, cursor, 0, false).behind) {
+        if let LineKind::Heading { level, start, end } = line.kind {
             return Some(KeptHeading {
                 level,
-                start: a + start,
-                end: a + end,
-                behind,
+                start: line.start + start,
+                end: line.start + end,
+                behind: line.behind,
             });
         }
-        c = behind;
+        cursor = line.behind;
     }
+    None
 }

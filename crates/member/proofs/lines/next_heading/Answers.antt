@@ -3,39 +3,29 @@ use native.Mathlib.Omega.{arith}
 use Rattle.member.proofs.HeadingLaws.{passed_none, passed-still, passed-end, passed-plain, passed-heading, line-next, heading_in, not_heading}
 use Rattle.member.proofs.lines.next_heading.Goals as goal
 
-pub loop-a-init : goal.loop-a-init
-loop-a-init c = passed_none c.requires
-
-pub pass-passed-requires : goal.pass-passed-requires
-pass-passed-requires c = c.loop-a.invariant.cursor
+pub loop-line-init : goal.loop-line-init
+loop-line-init c = passed_none c.requires
 
 pub next_line-requires : goal.next_line-requires
-next_line-requires c = (passed-still c.loop-a.invariant c.pass-passed.ensures).cursor
-
-pub returns-in_default : goal.returns-in_default
-returns-in_default c = passed-end (passed-still c.loop-a.invariant c.pass-passed.ensures) (rw c.in_default.is at c.next_line.ensures)
+next_line-requires c = (passed-still c.loop-line.invariant c.pass.ensures).cursor
 
 pub overflow_add-result : goal.overflow_add-result
-overflow_add-result c =
-    let l = rw c.in-Some.is at c.next_line.ensures in
-    omega (arith, heading_in (rw c.in-Heading.is at l))
+overflow_add-result c = omega (arith, heading_in (rw c.in-Heading.is at c.in-Some.ensures))
 
 pub overflow_add-result-in-Heading : goal.overflow_add-result-in-Heading
-overflow_add-result-in-Heading c =
-    let l = rw c.in-Some.is at c.next_line.ensures in
-    omega (arith, heading_in (rw c.in-Heading.is at l))
+overflow_add-result-in-Heading c = omega (arith, heading_in (rw c.in-Heading.is at c.in-Some.ensures))
 
 pub returns-in-Heading : goal.returns-in-Heading
-returns-in-Heading c =
-    let l = rw c.in-Some.is at c.next_line.ensures in
-    passed-heading (passed-still c.loop-a.invariant c.pass-passed.ensures) (rw c.in-Heading.is at l)
+returns-in-Heading c = passed-heading (passed-still c.loop-line.invariant c.pass.ensures) (rw c.in-Heading.is at c.in-Some.ensures)
 
-pub loop-a-smaller : goal.loop-a-smaller
-loop-a-smaller c =
-    let l = rw c.in-Some.is at c.next_line.ensures in
-    omega (arith, line-next (passed-still c.loop-a.invariant c.pass-passed.ensures).cursor l, (passed-still (passed_none c.loop-a.invariant.cursor) c.pass-passed.ensures).order)
+pub loop-line-smaller : goal.loop-line-smaller
+loop-line-smaller c =
+    let i = c.loop-line.invariant in
+    omega (arith, line-next (passed-still i c.pass.ensures).cursor c.in-Some.ensures, (passed-still (passed_none i.cursor) c.pass.ensures).order)
 
-pub loop-a-preserved : goal.loop-a-preserved
-loop-a-preserved c =
-    let l = rw c.in-Some.is at c.next_line.ensures in
-    passed-plain (passed-still c.loop-a.invariant c.pass-passed.ensures) l (not_heading c.in-Some.kind c.in_default-kind.not-Heading)
+pub loop-line-preserved : goal.loop-line-preserved
+loop-line-preserved c =
+    passed-plain (passed-still c.loop-line.invariant c.pass.ensures) c.in-Some.ensures (not_heading c.in-Some.line.kind c.in_default-kind.not-Heading)
+
+pub returns : goal.returns
+returns c = passed-end (passed-still c.loop-line.invariant c.pass.ensures) (rw c.in_default.is at c.next_line.ensures)

@@ -4,8 +4,8 @@ use lib.ListN.{length}
 use Rattle.member.proofs.HeadingLaws.{NoHeadings}
 use Rattle.member.proofs.lines.next_heading.Given as goal
 
-abbrev pub invariant-loop-a : goal.invariant-loop-a
-invariant-loop-a l = NoHeadings l.s l.initial.c l.c
+abbrev pub invariant-loop-line : goal.invariant-loop-line
+invariant-loop-line l = NoHeadings l.s l.initial.cursor l.cursor
 
-abbrev pub decreases-loop-a : goal.decreases-loop-a
-decreases-loop-a l = suc (length l.s) - l.c.at
+abbrev pub decreases-loop-line : goal.decreases-loop-line
+decreases-loop-line l = suc (length l.s) - l.cursor.at

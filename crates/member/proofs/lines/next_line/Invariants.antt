@@ -4,8 +4,8 @@ use lib.ListN.{length}
 use Rattle.member.proofs.LinesLaws.{Kept}
 use Rattle.member.proofs.lines.next_line.Given as goal
 
-abbrev pub invariant-loop-a : goal.invariant-loop-a
-invariant-loop-a l = Kept l.s l.initial.a l.a l.within
+abbrev pub invariant-loop-start : goal.invariant-loop-start
+invariant-loop-start l = Kept l.s l.initial.start l.start l.within
 
-abbrev pub decreases-loop-a : goal.decreases-loop-a
-decreases-loop-a l = suc (length l.s) - l.a
+abbrev pub decreases-loop-start : goal.decreases-loop-start
+decreases-loop-start l = suc (length l.s) - l.start
