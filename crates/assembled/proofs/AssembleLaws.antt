@@ -1,9 +1,9 @@
 -- Laws of an assembly: what the walk makes, where it fails and what it tests, are its text, its faults and its running texts. Assumes nothing.
+use Rattle.std.specs.Prelude.{Option, Some, None}
 use Prim.Native.Nat.{ℕ, ◌+◌, ◌≤◌}
 use native.Mathlib.Omega.{arith}
 use mathlib.Core.Path.{◌≡◌, refl, sym, ap, ◌∙◌}
 use mathlib.Core.List.{List, [], ◌∷◌, ◌++◌, map, Memᴰ}
-use mathlib.Core.Option.{Option, none, some}
 use lib.ListN.{length, length-append}
 use Rattle.text.specs.Lines.{LF}
 use Rattle.text.specs.Split.{join}
@@ -40,60 +40,60 @@ assemble-made url hs = simp (ends-go, ends-part, prepare_all-made, emit_all-made
 
 -- ---- a fault, or a text
 
-prepared_flaws : (hs : List File) → Agrees (prepared_all hs) (length (each_faults prepare (map some hs)))
+prepared_flaws : (hs : List File) → Agrees (prepared_all hs) (length (each_faults prepare (map Some hs)))
 unfolding prepared_all each_faults
 prepared_flaws [] = refl
 prepared_flaws (h ∷ hs) = rw length-append (agrees_cons (part_made (prepare h)) (prepared_all hs) _ _ (agrees_part (prepare h)) (prepared_flaws hs))
 
-prepared_some : (hs : List File) (ms : List Prepared) → prepared_all hs ≡ some ms → each_made prepare (map some hs) ≡ map some ms
+prepared_some : (hs : List File) (ms : List Prepared) → prepared_all hs ≡ Some ms → each_made prepare (map Some hs) ≡ map Some ms
 unfolding prepared_all each_made
 prepared_some [] ms e = let h : [] ≡ ms = cc in rw (← h)
 prepared_some (h ∷ hs) ms e =
-    made_by (part_made (prepare h)) (λ x. and_then (prepared_all hs) (λ xs. some (x ∷ xs))) ms e (λ x i k.
-    made_by (prepared_all hs) (λ xs. some (x ∷ xs)) ms k (λ xs j l.
+    made_by (part_made (prepare h)) (λ x. and_then (prepared_all hs) (λ xs. Some (x ∷ xs))) ms e (λ x i k.
+    made_by (prepared_all hs) (λ xs. Some (x ∷ xs)) ms k (λ xs j l.
     let z : x ∷ xs ≡ ms = cc in
-    rw (i, prepared_some hs xs j) (ap (λ l. map some l) z)))
+    rw (i, prepared_some hs xs j) (ap (λ l. map Some l) z)))
 
-present-some : (ms : List Prepared) → present (map some ms) ≡ ms
+present-some : (ms : List Prepared) → present (map Some ms) ≡ ms
 unfolding present
 present-some [] = refl
 present-some (m ∷ ms) = ap (λ l. m ∷ l) (present-some ms)
 
-joined_flaws : (f : Prepared → Part (List (List ℕ))) (ms : List Prepared) (ls : List (List ℕ)) → Agrees (joined_all f ms ls) (length (each_faults f (map some ms)))
+joined_flaws : (f : Prepared → Part (List (List ℕ))) (ms : List Prepared) (ls : List (List ℕ)) → Agrees (joined_all f ms ls) (length (each_faults f (map Some ms)))
 unfolding joined_all each_faults
 joined_flaws f [] ls = refl
 joined_flaws f (m ∷ ms) ls = rw length-append (agrees_then (part_made (f m)) _ _ _ (agrees_part (f m)) (λ es. joined_flaws f ms (join_lines ls es)))
 
-compare-made : (ms us : List Prepared) → part_made (compare ms) ≡ some us → ms ≡ us
+compare-made : (ms us : List Prepared) → part_made (compare ms) ≡ Some us → ms ≡ us
 compare-made ms us e = go-shared (shared_from [] ms) e
   where
-    go-shared : (xs : List Refusal) → part_made (unless xs ms) ≡ some us → ms ≡ us
+    go-shared : (xs : List Refusal) → part_made (unless xs ms) ≡ Some us → ms ≡ us
     go-shared [] e = cc
     go-shared (x ∷ xs) e = let z : ◌≡◌ {A = ℕ} 0 1 = cc in absurd (omega arith)
 
-compared_flaws : (url : List ℕ) (ms : List Prepared) → Agrees (and_then (part_made (compare ms)) (λ us. joined_all (emit (title_named us) url) us [])) (length (prepared_faults url (map some ms)))
+compared_flaws : (url : List ℕ) (ms : List Prepared) → Agrees (and_then (part_made (compare ms)) (λ us. joined_all (emit (title_named us) url) us [])) (length (prepared_faults url (map Some ms)))
 compared_flaws url ms = rw (present-some ms, length-append) (go (shared_from [] ms) (joined_flaws (emit (title_named ms) url) ms []))
   where
-    go : (xs : List Refusal) → Agrees (joined_all (emit (title_named ms) url) ms []) (length (each_faults (emit (title_named ms) url) (map some ms)))
-        → Agrees (and_then (part_made (unless xs ms)) (λ us. joined_all (emit (title_named us) url) us [])) (length xs + length (each_faults (emit (title_named ms) url) (map some ms)))
-    go [] h = let e : 0 + length (each_faults (emit (title_named ms) url) (map some ms)) ≡ length (each_faults (emit (title_named ms) url) (map some ms)) = omega arith in rw e h
+    go : (xs : List Refusal) → Agrees (joined_all (emit (title_named ms) url) ms []) (length (each_faults (emit (title_named ms) url) (map Some ms)))
+        → Agrees (and_then (part_made (unless xs ms)) (λ us. joined_all (emit (title_named us) url) us [])) (length xs + length (each_faults (emit (title_named ms) url) (map Some ms)))
+    go [] h = let e : 0 + length (each_faults (emit (title_named ms) url) (map Some ms)) ≡ length (each_faults (emit (title_named ms) url) (map Some ms)) = omega arith in rw e h
     go (x ∷ xs) h = omega arith
 
-pub assemble_flaws : (url : List ℕ) (hs : List File) → Agrees (assembled_text url hs) (length (assembly_faults url (map some hs)))
+pub assemble_flaws : (url : List ℕ) (hs : List File) → Agrees (assembled_text url hs) (length (assembly_faults url (map Some hs)))
 unfolding assembled_text
 assemble_flaws url hs = rw length-append (at-members (prepared_all hs) refl (prepared_flaws hs))
   where
-    at-members : (o : Option (List Prepared)) → prepared_all hs ≡ o → Agrees o (length (each_faults prepare (map some hs)))
+    at-members : (o : Option (List Prepared)) → prepared_all hs ≡ o → Agrees o (length (each_faults prepare (map Some hs)))
         → Agrees (and_then o (λ ms. and_then (part_made (compare ms)) (λ us. joined_all (emit (title_named us) url) us [])))
-        (length (each_faults prepare (map some hs)) + length (prepared_faults url (each_made prepare (map some hs))))
-    at-members none q h = omega arith
-    at-members (some ms) q h =
-        let e : length (each_faults prepare (map some hs)) + length (prepared_faults url (map some ms)) ≡ length (prepared_faults url (map some ms)) = omega arith in
+        (length (each_faults prepare (map Some hs)) + length (prepared_faults url (each_made prepare (map Some hs))))
+    at-members None q h = omega arith
+    at-members (Some ms) q h =
+        let e : length (each_faults prepare (map Some hs)) + length (prepared_faults url (map Some ms)) ≡ length (prepared_faults url (map Some ms)) = omega arith in
         rw (prepared_some hs ms q, e) (compared_flaws url ms)
 
 -- the fault that the walk ends in is one of those: f is any weight
 module _ (f : Refusal → ℕ) where
-  prepareAll-flaw : (hs : List File) → flaw f (prepare_all hs) ≤ total f (each_faults prepare (map some hs))
+  prepareAll-flaw : (hs : List File) → flaw f (prepare_all hs) ≤ total f (each_faults prepare (map Some hs))
   unfolding prepare_all each_faults flaw total
   prepareAll-flaw [] = omega arith
   prepareAll-flaw (h ∷ hs) =
@@ -102,18 +102,18 @@ module _ (f : Refusal → ℕ) where
       zero_more : {n k : ℕ} → n ≤ k + 0 → n ≤ k
       zero_more h = omega arith
 
-  emitAll-flaw : (g : Prepared → Part (List (List ℕ))) (k : ℕ) (ms : List Prepared) (ls : List (List ℕ)) → flaw f (emit_all g k ms ls) ≤ total f (each_faults g (map some ms))
+  emitAll-flaw : (g : Prepared → Part (List (List ℕ))) (k : ℕ) (ms : List Prepared) (ls : List (List ℕ)) → flaw f (emit_all g k ms ls) ≤ total f (each_faults g (map Some ms))
   unfolding emit_all each_faults flaw total
   emitAll-flaw g k [] ls = omega arith
   emitAll-flaw g k (m ∷ ms) ls =
       rw total_append (flaw_go f (part (g m)) (λ es. sized (join LF (join_lines ls es)) (place m.file 0) (emit_all g m.file ms (join_lines ls es))) _ _ (flaw_part f (g m)) (λ es i. emitAll-flaw g m.file ms (join_lines ls es)))
 
-  compared-flaw : (url : List ℕ) (ms : List Prepared) → flaw f (go (part (compare ms)) (λ us. assemble_prepared url us)) ≤ total f (prepared_faults url (map some ms))
+  compared-flaw : (url : List ℕ) (ms : List Prepared) → flaw f (go (part (compare ms)) (λ us. assemble_prepared url us)) ≤ total f (prepared_faults url (map Some ms))
   compared-flaw url ms =
       rw (present-some ms, total_append) (flaw_go f (part (compare ms)) (λ us. assemble_prepared url us) _ _ (rw (unless-faults (shared_from [] ms) ms) at (flaw_part f (compare ms))) (λ us e.
       rw (← compare-made ms us (sym (ends-part (compare ms)) ∙ e)) (emitAll-flaw (emit (title_named ms) url) 0 ms [])))
 
-  pub assemble_flaw : (url : List ℕ) (hs : List File) → flaw f (assemble url hs) ≤ total f (assembly_faults url (map some hs))
+  pub assemble_flaw : (url : List ℕ) (hs : List File) → flaw f (assemble url hs) ≤ total f (assembly_faults url (map Some hs))
   unfolding assemble
   assemble_flaw url hs =
       rw total_append (flaw_go f (prepare_all hs) (λ ms. go (part (compare ms)) (λ us. assemble_prepared url us)) _ _ (prepareAll-flaw hs) (λ ms e.
@@ -122,16 +122,16 @@ module _ (f : Refusal → ℕ) where
 -- ---- what it tests
 
 module _ (f : List ℕ → ℕ) (n : ℕ) where
-  prepareAll-weigh : (hs : List File) (ms : List Prepared) → prepared_all hs ≡ some ms → weigh f n (prepare_all hs) ≡ 0
+  prepareAll-weigh : (hs : List File) (ms : List Prepared) → prepared_all hs ≡ Some ms → weigh f n (prepare_all hs) ≡ 0
   unfolding prepare_all prepared_all weigh
   prepareAll-weigh [] ms e = refl
   prepareAll-weigh (h ∷ hs) ms e =
-      made_by (part_made (prepare h)) (λ x. and_then (prepared_all hs) (λ xs. some (x ∷ xs))) ms e (λ x i k.
-      made_by (prepared_all hs) (λ xs. some (x ∷ xs)) ms k (λ xs j m.
+      made_by (part_made (prepare h)) (λ x. and_then (prepared_all hs) (λ xs. Some (x ∷ xs))) ms e (λ x i k.
+      made_by (prepared_all hs) (λ xs. Some (x ∷ xs)) ms k (λ xs j m.
       let k = prepareAll-weigh hs xs j in
       rw (weigh_go f n (part (prepare h)) _ x (ends-part (prepare h) ∙ i), weigh_part, weigh_go f n (prepare_all hs) _ xs (prepare_all-made hs ∙ j)) (omega arith)))
 
-  emitAll-weigh : (g : Prepared → Part (List (List ℕ))) (k : ℕ) (ms : List Prepared) (ls : List (List ℕ)) (v : List ℕ) → joined_all g ms ls ≡ some v
+  emitAll-weigh : (g : Prepared → Part (List (List ℕ))) (k : ℕ) (ms : List Prepared) (ls : List (List ℕ)) (v : List ℕ) → joined_all g ms ls ≡ Some v
       → weigh f n (emit_all g k ms ls) ≡ total f (joins g ms ls)
   unfolding emit_all joined_all joins weigh total
   emitAll-weigh g k [] ls v e = omega arith
@@ -140,7 +140,7 @@ module _ (f : List ℕ → ℕ) (n : ℕ) where
       let h = emitAll-weigh g m.file ms (join_lines ls es) v j in
       rw (weigh_go f n (part (g m)) _ es (ends-part (g m) ∙ i), weigh_part, i) (omega arith))
 
-  pub assemble_weigh : (url : List ℕ) (hs : List File) (v : List ℕ) → assembled_text url hs ≡ some v → weigh f n (assemble url hs) ≡ total f (assembly_running url hs)
+  pub assemble_weigh : (url : List ℕ) (hs : List File) (v : List ℕ) → assembled_text url hs ≡ Some v → weigh f n (assemble url hs) ≡ total f (assembly_running url hs)
   unfolding assemble assembled_text
   assemble_weigh url hs v e =
       made_by (prepared_all hs) (λ ms. and_then (part_made (compare ms)) (λ us. joined_all (emit (title_named us) url) us [])) v e (λ ms h i.
@@ -180,12 +180,12 @@ module _ (f : List ℕ → ℕ) (n : ℕ) where
 
 -- ---- the text is the last of the running texts
 
-joined_running : (f : Prepared → Part (List (List ℕ))) (ms : List Prepared) (ls : List (List ℕ)) (t : List ℕ) → joined_all f ms ls ≡ some t → Memᴰ t (joins f ms ls)
+joined_running : (f : Prepared → Part (List (List ℕ))) (ms : List Prepared) (ls : List (List ℕ)) (t : List ℕ) → joined_all f ms ls ≡ Some t → Memᴰ t (joins f ms ls)
 unfolding joined_all joins
 joined_running f [] ls t e = let q : join LF ls ++ (LF ∷ []) ≡ t = cc in Memᴰ.head (sym q)
 joined_running f (m ∷ ms) ls t e = made_by (part_made (f m)) (λ es. joined_all f ms (join_lines ls es)) t e (λ es i k. rw i (Memᴰ.tail (joined_running f ms (join_lines ls es) t k)))
 
-pub assembled-running : (url : List ℕ) (hs : List File) (t : List ℕ) → assembled_text url hs ≡ some t → Memᴰ t (assembly_running url hs)
+pub assembled-running : (url : List ℕ) (hs : List File) (t : List ℕ) → assembled_text url hs ≡ Some t → Memᴰ t (assembly_running url hs)
 unfolding assembled_text
 assembled-running url hs t e =
     made_by (prepared_all hs) (λ ms. and_then (part_made (compare ms)) (λ us. joined_all (emit (title_named us) url) us [])) t e (λ ms i k.

@@ -5,7 +5,6 @@ use native.Mathlib.Omega.{arith}
 use mathlib.Core.Path.{◌≡◌, refl}
 use mathlib.Core.Bool.{Bool, true, false, cond}
 use mathlib.Core.List.{List, [], ◌∷◌, map}
-use mathlib.Core.Option.{Option, none, some}
 use lib.IntN.{ℤ, pos, ◌+ℤ◌}
 use lib.ListN.{length, take, replicate, length-append}
 use lib.Dec.{eqb}
@@ -119,11 +118,11 @@ map_ends F g (t ∷ []) h = g t h
 map_ends F g (t ∷ u ∷ ts) h = map_ends F g (u ∷ ts) h
 
 -- a member that is prepared has such lines, since it has a title
-title-some : (st : WalkState) (ls : List (List ℕ)) (t : List ℕ) → title_of (told_from st (drop_end ls)) ≡ some t → 0 < up_to ls
+title-some : (st : WalkState) (ls : List (List ℕ)) (t : List ℕ) → title_of (told_from st (drop_end ls)) ≡ Some t → 0 < up_to ls
 unfolding title_of told_from
 title-some st ls t e = go (up_to ls) e
   where
-    go : (n : ℕ) → title_of (told_from st (take n ls)) ≡ some t → 0 < n
+    go : (n : ℕ) → title_of (told_from st (take n ls)) ≡ Some t → 0 < n
     go zero q = let z : ◌≡◌ {A = ℕ} 0 1 = cc in absurd (omega arith)
     go (suc n) q = omega arith
 
@@ -132,8 +131,8 @@ unfolding prepare prepared_lines
 prepared_ends h m e = go (title_of (prepared_lines h.text)) refl e
   where
     go : (o : Option (List ℕ)) → title_of (prepared_lines h.text) ≡ o → titled h (prepared_lines h.text) o ≡ good m → Ends told m.lines
-    go none q p = let z : ◌≡◌ {A = ℕ} 0 1 = cc in absurd (omega arith)
-    go (some t) q p =
+    go None q p = let z : ◌≡◌ {A = ℕ} 0 1 = cc in absurd (omega arith)
+    go (Some t) q p =
         let ls : List (List ℕ) = without_contents false (pieces h.text) in
         let w : prepared_lines h.text ≡ m.lines = cc in
         rw (← w) (told-ends walk_begin (drop_end ls) (drop_ends ls (title-some walk_begin ls t q)))

@@ -1,9 +1,9 @@
 -- The numbers of an assembly's faults: 16, 18 and 19. Assumes nothing.
+use Rattle.std.specs.Prelude.{Option, Some, None}
 use Prim.Native.Nat.{ℕ, ◌+◌}
 use mathlib.Core.Path.{◌≡◌, refl}
 use mathlib.Core.Bool.{Bool, true, false, cond}
 use mathlib.Core.List.{List, [], ◌∷◌, ◌++◌}
-use mathlib.Core.Option.{Option, none, some}
 use lib.Dec.{eqb}
 use Rattle.answer.specs.Answer.{place}
 use Rattle.answer.specs.declared.Place.{Place}
@@ -30,8 +30,8 @@ unfolding prepare all_faults
 prepare_fault h = go (title_of (prepared_lines h.text))
   where
     go : (o : Option (List ℕ)) → all_faults (part_faults (titled h (prepared_lines h.text) o)) ≡ true
-    go none = refl
-    go (some t) = refl
+    go None = refl
+    go (Some t) = refl
 
 -- 19
 at_fault : (p q : Place) → all_faults (shared_at p q) ≡ true
@@ -66,8 +66,8 @@ emit_fault titles url m = unless_fault _ _ (past_fault (λ n. HeadingLevel (plac
 each_fault : {A B : Type 0} (f : A → Part B) → ((a : A) → all_faults (part_faults (f a)) ≡ true) → (os : List (Option A)) → all_faults (each_faults f os) ≡ true
 unfolding each_faults all_faults
 each_fault f h [] = refl
-each_fault f h (none ∷ os) = each_fault f h os
-each_fault f h (some a ∷ os) = all_append (part_faults (f a)) (each_faults f os) (h a) (each_fault f h os)
+each_fault f h (None ∷ os) = each_fault f h os
+each_fault f h (Some a ∷ os) = all_append (part_faults (f a)) (each_faults f os) (h a) (each_fault f h os)
 
 pub assembly_fault : (url : List ℕ) (os : List (Option File)) → all_faults (assembly_faults url os) ≡ true
 assembly_fault url os =

@@ -1,10 +1,10 @@
 -- The places of an assembly's refusals: what holds of each refusal at such a place holds of all that the walk of an assembly may come to. Assumes nothing.
+use Rattle.std.specs.Prelude.{Option, Some, None}
 use Prim.Native.Nat.{ℕ, ◌+◌, ◌≤◌, ◌<◌}
 use native.Mathlib.Omega.{arith}
 use mathlib.Core.Path.{◌≡◌, refl}
 use mathlib.Core.Bool.{Bool, true, false, cond, not, ◌&&◌}
 use mathlib.Core.List.{List, [], ◌∷◌, ◌++◌}
-use mathlib.Core.Option.{Option, none, some}
 use lib.Dec.{eqb}
 use lib.ListN.{length}
 use borrow.Author.Tests.{eqb-false}
@@ -62,8 +62,8 @@ module _ {P : Refusal → Type 0} {n : ℕ} (h : AssemblyPlaces P n) where
   prepare-holds f q = at-title (title_of (prepared_lines f.text))
     where
       at-title : (o : Option (List ℕ)) → Holds P Known (part (titled f (prepared_lines f.text) o))
-      at-title none = h.title f.number q.0 q.1
-      at-title (some t) = q
+      at-title None = h.title f.number q.0 q.1
+      at-title (Some t) = q
 
   all-holds : (hs : List File) → Each (InSet n) hs → Holds P AllKnown (prepare_all hs)
   unfolding prepare_all Each Holds

@@ -1,6 +1,5 @@
 -- The text that an assembly makes, its faults and its running texts, without the walk.
-use Rattle.std.specs.Prelude.{List, [], ◌∷◌, ◌++◌, ℕ}
-use Rattle.std.proofs.Math.Option.{Option, none, some}
+use Rattle.std.specs.Prelude.{List, [], ◌∷◌, ◌++◌, ℕ, Option, Some, None}
 use Rattle.answer.specs.declared.Refusal.{Refusal}
 use Rattle.text.specs.Lines.{LF}
 use Rattle.text.specs.Split.{join}
@@ -13,11 +12,11 @@ use Rattle.emitted.specs.Emit.{emit, join_lines}
 
 -- the text: every member prepared, all compared, every one emitted, and joined
 unfoldable pub prepared_all : List File → Option (List Prepared)
-prepared_all [] = some []
-prepared_all (h ∷ hs) = and_then (part_made (prepare h)) (λ m. and_then (prepared_all hs) (λ ms. some (m ∷ ms)))
+prepared_all [] = Some []
+prepared_all (h ∷ hs) = and_then (part_made (prepare h)) (λ m. and_then (prepared_all hs) (λ ms. Some (m ∷ ms)))
 
 unfoldable pub joined_all : (Prepared → Part (List (List ℕ))) → List Prepared → List (List ℕ) → Option (List ℕ)
-joined_all f [] ls = some (join LF ls ++ (LF ∷ []))
+joined_all f [] ls = Some (join LF ls ++ (LF ∷ []))
 joined_all f (m ∷ ms) ls = and_then (part_made (f m)) (λ es. joined_all f ms (join_lines ls es))
 
 unfoldable pub assembled_text : List ℕ → List File → Option (List ℕ)
@@ -34,8 +33,8 @@ each_made f (o ∷ os) = and_then o (λ a. part_made (f a)) ∷ each_made f os
 
 unfoldable pub present : {A : Type 0} → List (Option A) → List A
 present [] = []
-present (none ∷ os) = present os
-present (some a ∷ os) = a ∷ present os
+present (None ∷ os) = present os
+present (Some a ∷ os) = a ∷ present os
 
 abbrev pub prepared_faults : List ℕ → List (Option Prepared) → List Refusal
 prepared_faults url ps = shared_from [] (present ps) ++ each_faults (emit (title_named (present ps)) url) ps

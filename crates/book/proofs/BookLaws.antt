@@ -1,9 +1,9 @@
 -- Laws of a book: what the walk makes, where it fails, what it tests and takes in, are what lies on the chains and in the assembly. Assumes nothing.
+use Rattle.std.specs.Prelude.{Option, Some, None}
 use Prim.Native.Nat.{ℕ, ◌+◌, ◌≤◌}
 use native.Mathlib.Omega.{arith}
 use mathlib.Core.Path.{◌≡◌, refl, sym, ◌∙◌}
 use mathlib.Core.List.{List, [], ◌∷◌, map, Memᴰ}
-use mathlib.Core.Option.{Option, none, some}
 use lib.ListN.{length}
 use Rattle.answer.specs.declared.Refusal.{Refusal}
 use Rattle.index.specs.Index.{File}
@@ -43,12 +43,12 @@ all_flaws (c ∷ cs) =
     rw e (agrees_cons (made c) (made_all cs) _ _ (made_flaws c) (all_flaws cs))
 
 -- the members whose texts are made, where all are
-all_some : (S : List File) (M : List ℕ) (ts : List (List ℕ)) → made_all (starts S M) ≡ some ts → made_members S M ≡ map some (with_texts (members_of S M) ts)
+all_some : (S : List File) (M : List ℕ) (ts : List (List ℕ)) → made_all (starts S M) ≡ Some ts → made_members S M ≡ map Some (with_texts (members_of S M) ts)
 unfolding made_all made_members with_texts
 all_some S [] ts e = refl
 all_some S (k ∷ M) ts e =
-    made_by (made (start S k)) (λ t. and_then (made_all (starts S M)) (λ us. some (t ∷ us))) ts e (λ t i j.
-    made_by (made_all (starts S M)) (λ us. some (t ∷ us)) ts j (λ us h l.
+    made_by (made (start S k)) (λ t. and_then (made_all (starts S M)) (λ us. Some (t ∷ us))) ts e (λ t i j.
+    made_by (made_all (starts S M)) (λ us. Some (t ∷ us)) ts j (λ us h l.
     let z : t ∷ us ≡ ts = cc in
     rw (← z, i, all_some S M us h)))
 
@@ -58,8 +58,8 @@ book_flaws S M url = at-members (made_all (starts S M)) refl (all_flaws (starts 
   where
     at-members : (o : Option (List (List ℕ))) → made_all (starts S M) ≡ o → Agrees o (total flaws (reached (starts S M)))
         → Agrees (and_then o (λ ts. assembled_text url (with_texts (members_of S M) ts))) (total flaws (reached (starts S M)) + length (book_faults S M url))
-    at-members none q h = omega arith
-    at-members (some ts) q h =
+    at-members None q h = omega arith
+    at-members (Some ts) q h =
         let e : total flaws (reached (starts S M)) + length (book_faults S M url) ≡ length (book_faults S M url) = omega arith in
         rw (e, all_some S M ts q) (assemble_flaws url (with_texts (members_of S M) ts))
 
@@ -82,18 +82,18 @@ module _ (f : Refusal → ℕ) where
 -- ---- what it tests and takes in
 
 module _ (f : List ℕ → ℕ) (n : ℕ) where
-  walkAll-weigh : (cs : List Chain) (ts : List (List ℕ)) → made_all cs ≡ some ts
+  walkAll-weigh : (cs : List Chain) (ts : List (List ℕ)) → made_all cs ≡ Some ts
       → weigh f n (walk_all cs) ≡ total (λ d. total f (running d)) (reached cs) + total (λ d. n) (extended cs)
   unfolding walk_all made_all reached extended total weigh
   walkAll-weigh [] ts e = omega arith
   walkAll-weigh (c ∷ cs) ts e =
-      made_by (made c) (λ t. and_then (made_all cs) (λ us. some (t ∷ us))) ts e (λ t i k.
-      made_by (made_all cs) (λ us. some (t ∷ us)) ts k (λ us j l.
+      made_by (made c) (λ t. and_then (made_all cs) (λ us. Some (t ∷ us))) ts e (λ t i k.
+      made_by (made_all cs) (λ us. Some (t ∷ us)) ts k (λ us j l.
       let h = walk_weigh f n c t i in
       let k = walkAll-weigh cs us j in
       rw (weigh_go f n (walk c) _ t (walk-made c ∙ i), weigh_go f n (walk_all cs) _ us (walk_all-made cs ∙ j)) (simp total_append (omega arith))))
 
-  book-weigh : (S : List File) (M url v : List ℕ) → book_text S M url ≡ some v
+  book-weigh : (S : List File) (M url v : List ℕ) → book_text S M url ≡ Some v
       → weigh f n (book S M url) ≡ total (λ d. total f (running d)) (reached (starts S M)) + total f (book_running S M url) + total (λ d. n) (extended (starts S M))
   unfolding book book_text
   book-weigh S M url v e =
@@ -119,7 +119,7 @@ module _ (f : List ℕ → ℕ) (n : ℕ) where
       rw (sym (walk_all-made (starts S M)) ∙ e) (assemble_weigh_le f n url (with_texts (members_of S M) ts))) in
       omega arith
 
-pub book-takes : (S : List File) (M url v : List ℕ) → book_text S M url ≡ some v → takes (book S M url) ≡ length (extended (starts S M))
+pub book-takes : (S : List File) (M url v : List ℕ) → book_text S M url ≡ Some v → takes (book S M url) ≡ length (extended (starts S M))
 book-takes S M url v e =
     let w = weigh_takes (book S M url) in
     let h = book-weigh (λ t. 0) 1 S M url v e in
@@ -128,7 +128,7 @@ book-takes S M url v e =
     omega (arith, total_one (extended (starts S M)))
 
 -- each running text is tested as often as it comes: f is any weight
-pub book-sizes : (f : List ℕ → ℕ) (S : List File) (M url v : List ℕ) → book_text S M url ≡ some v
+pub book-sizes : (f : List ℕ → ℕ) (S : List File) (M url v : List ℕ) → book_text S M url ≡ Some v
     → total f (sizes (book S M url)) ≡ total (λ d. total f (running d)) (reached (starts S M)) + total f (book_running S M url)
 book-sizes f S M url v e =
     let w = weigh_sizes f (book S M url) in
@@ -155,6 +155,6 @@ book-sizes_le f S M url =
 
 -- ---- the text is one of the running texts
 
-pub book-running : (S : List File) (M url : List ℕ) (t : List ℕ) → book_text S M url ≡ some t → Memᴰ t (book_running S M url)
+pub book-running : (S : List File) (M url : List ℕ) (t : List ℕ) → book_text S M url ≡ Some t → Memᴰ t (book_running S M url)
 unfolding book_text
 book-running S M url t e = made_by (made_all (starts S M)) (λ ts. assembled_text url (with_texts (members_of S M) ts)) t e (λ ts i k. rw i (assembled-running url (with_texts (members_of S M) ts) t k))

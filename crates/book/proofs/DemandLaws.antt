@@ -1,11 +1,11 @@
 -- Demand 3 on judged walks: given exactly when, as defined on chains, larger limits, and the reasons of refusals. Assumes nothing.
+use Rattle.std.specs.Prelude.{Option, Some, None}
 use Prim.Native.Nat.{ℕ, zero, suc, ◌+◌, ◌≤◌, ◌<◌}
 use native.Mathlib.Omega.{arith}
 use mathlib.Core.Path.{◌≡◌, refl, sym, ap, ◌∙◌}
 use mathlib.Core.Bool.{Bool, true, false}
 use mathlib.Core.List.{List}
 use mathlib.Core.Logic.{inl, inr, ◌↔◌}
-use mathlib.Core.Option.{Option, none, some}
 use lib.ListN.{length}
 use Rattle.answer.specs.Answer.{number}
 use Rattle.answer.specs.declared.Refusal.{Refusal}
@@ -30,10 +30,10 @@ use Rattle.book.proofs.BookLaws.{book-made, book_flaws, book_flaw, book-takes, b
 -- ---- given exactly when
 
 module _ (B L : ℕ) (S : List File) (few : length S ≤ 64) (M url : List ℕ) where
-  given-sound : (t : List ℕ) (n : ℕ) → judge B L 0 (book S M url) ≡ given t n → Sound B L S M url × ((book_text S M url ≡ some t) × (n ≡ length (extended (starts S M))))
+  given-sound : (t : List ℕ) (n : ℕ) → judge B L 0 (book S M url) ≡ given t n → Sound B L S M url × ((book_text S M url ≡ Some t) × (n ≡ length (extended (starts S M))))
   given-sound t n e =
       let g = given-judge B L 0 (book S M url) t n (omega arith) e in
-      let q : book_text S M url ≡ some t = sym (book-made S M url) ∙ g.ended in
+      let q : book_text S M url ≡ Some t = sym (book-made S M url) ∙ g.ended in
       let f : total flaws (reached (starts S M)) + length (book_faults S M url) ≡ 0 = rw q at (book_flaws S M url) in
       let s = book-sizes (over L) S M url t q in
       let k = book-takes S M url t q in (
@@ -47,15 +47,15 @@ module _ (B L : ℕ) (S : List File) (few : length S ≤ 64) (M url : List ℕ) 
         (q, omega (arith, g.count)),
       )
 
-  sound-given : Sound B L S M url → (a : List ℕ) × (book_text S M url ≡ some a) × (judge B L 0 (book S M url) ≡ given a (length (extended (starts S M))))
+  sound-given : Sound B L S M url → (a : List ℕ) × (book_text S M url ≡ Some a) × (judge B L 0 (book S M url) ≡ given a (length (extended (starts S M))))
   sound-given s = at-text (book_text S M url) refl (book_flaws S M url)
     where
       at-text : (o : Option (List ℕ)) → book_text S M url ≡ o → Agrees o (total flaws (reached (starts S M)) + length (book_faults S M url))
-          → (a : List ℕ) × (book_text S M url ≡ some a) × (judge B L 0 (book S M url) ≡ given a (length (extended (starts S M))))
-      at-text none q h =
+          → (a : List ℕ) × (book_text S M url ≡ Some a) × (judge B L 0 (book S M url) ≡ given a (length (extended (starts S M))))
+      at-text None q h =
           let f = nowhere flaws S few M (λ p c m. ap length (s.faultless p c m)) in
           absurd (omega (arith, ap length s.assembles))
-      at-text (some a) q h =
+      at-text (Some a) q h =
           let t = book-takes S M url a q in
           let r = nowhere (λ d. total (over L) (running d)) S few M (λ p c m. zero_total (over L) (running c) (λ u k. omega (arith, s.fits p c m u k))) in
           let j = zero_total (over L) (book_running S M url) (λ u k. omega (arith, s.joins_fit u k)) in
@@ -69,7 +69,7 @@ given_exactly B L S few M url =
     (λ g. (given-sound B L S few M url g.0 g.1 g.2).0, λ s. let r = sound-given B L S few M url s in (r.0, length (extended (starts S M)), r.2))
 
 module _ (B L : ℕ) (S : List File) (few : length S ≤ 64) (M url : List ℕ) (t : List ℕ) (n : ℕ) (e : judge B L 0 (book S M url) ≡ given t n) where
-  pub given-text : book_text S M url ≡ some t
+  pub given-text : book_text S M url ≡ Some t
   given-text = (given-sound B L S few M url t n e).1.0
 
   pub given-count : n ≡ length (extended (starts S M))

@@ -1,7 +1,6 @@
 -- Document 01, "Records" and "Assembly and book": the book on chains, without the walk.
-use Rattle.std.specs.Prelude.{ℕ, ◌≤◌, ◌≡◌, length}
+use Rattle.std.specs.Prelude.{ℕ, ◌≤◌, ◌≡◌, length, Option, Some}
 use mathlib.Core.List.{List, [], ◌∷◌, map, Memᴰ}
-use Rattle.std.proofs.Math.Option.{Option, some}
 use Rattle.answer.specs.declared.Refusal.{Refusal}
 use Rattle.index.specs.Index.{File, file_of}
 use Rattle.walk.specs.Parts.{and_then, if_made}
@@ -21,15 +20,15 @@ with_texts (f ∷ fs) (t ∷ ts) = file_of f.number f.name t ∷ with_texts fs t
 
 -- the book's text: every member made, and all assembled
 unfoldable pub made_all : List Chain → Option (List (List ℕ))
-made_all [] = some []
-made_all (c ∷ cs) = and_then (made c) (λ t. and_then (made_all cs) (λ ts. some (t ∷ ts)))
+made_all [] = Some []
+made_all (c ∷ cs) = and_then (made c) (λ t. and_then (made_all cs) (λ ts. Some (t ∷ ts)))
 
 unfoldable pub book_text : List File → List ℕ → List ℕ → Option (List ℕ)
 book_text S M url = and_then (made_all (starts S M)) (λ ts. assembled_text url (with_texts (members_of S M) ts))
 
 -- the members whose texts are made
 abbrev pub made_with : File → Option (List ℕ) → Option File
-made_with f o = and_then o (λ t. some (file_of f.number f.name t))
+made_with f o = and_then o (λ t. Some (file_of f.number f.name t))
 
 unfoldable pub made_members : List File → List ℕ → List (Option File)
 made_members S [] = []
@@ -44,8 +43,8 @@ book_running S M url = if_made (made_all (starts S M)) (λ ts. assembly_running 
 
 -- "nothing reached has a fault, the files taken in are within the allowance and no running text passes the limit"
 pub record Sound (B L : ℕ) (S : List File) (M url : List ℕ) : Type 0 where
-  pub faultless : (p : List ℕ) (c : Chain) → chain_at S M p ≡ some c → faults c ≡ []
+  pub faultless : (p : List ℕ) (c : Chain) → chain_at S M p ≡ Some c → faults c ≡ []
   pub assembles : book_faults S M url ≡ []
   pub allowed : (n : ℕ) × CountsChains S M n × (n ≤ B)
-  pub fits : (p : List ℕ) (c : Chain) → chain_at S M p ≡ some c → (t : List ℕ) → Memᴰ t (running c) → length t ≤ L
+  pub fits : (p : List ℕ) (c : Chain) → chain_at S M p ≡ Some c → (t : List ℕ) → Memᴰ t (running c) → length t ≤ L
   pub joins_fit : (t : List ℕ) → Memᴰ t (book_running S M url) → length t ≤ L

@@ -1,8 +1,7 @@
 -- Demand 3, stated on outcomes; the crate `demands` states it of calls. S is the file set that an index and contents give, M the record of each list line. `Sound`, `book_text`, `book_faults` and `book_running` are
 -- defined in `Book`; chains, their faults and their running texts in `Chains` of the crate `chains`. None of these knows of B, of L or of what the walk answers.
-use Rattle.std.specs.Prelude.{ℕ, ◌≤◌, ◌<◌, ◌⊎◌, ◌↔◌, ◌≡◌, length, Ok, Err}
+use Rattle.std.specs.Prelude.{ℕ, ◌≤◌, ◌<◌, ◌⊎◌, ◌↔◌, ◌≡◌, length, Ok, Err, Some}
 use mathlib.Core.List.{List, Memᴰ}
-use Rattle.std.proofs.Math.Option.{some}
 use Rattle.answer.specs.Answer.{number, numbers}
 use Rattle.answer.specs.declared.Refusal.{Refusal}
 use Rattle.index.specs.Index.{File, records, files}
@@ -32,13 +31,13 @@ numbers_of x = numbers (Err x)
 -- a fault with the number and the places of x, at a chain that is reached or in the assembly
 abbrev pub Faulty : List File → List ℕ → List ℕ → Refusal → Type 0
 Faulty S M url x =
-    ((p : List ℕ) × (c : Chain) × (chain_at S M p ≡ some c) × (y : Refusal) × Memᴰ y (faults c) × (numbers_of x ≡ numbers_of y))
+    ((p : List ℕ) × (c : Chain) × (chain_at S M p ≡ Some c) × (y : Refusal) × Memᴰ y (faults c) × (numbers_of x ≡ numbers_of y))
     ⊎ ((y : Refusal) × Memᴰ y (book_faults S M url) × (numbers_of x ≡ numbers_of y))
 
 -- a running text over the limit, at a chain that is reached or in the assembly
 abbrev pub Overlong : ℕ → List File → List ℕ → List ℕ → Type 0
 Overlong L S M url =
-    ((p : List ℕ) × (c : Chain) × (chain_at S M p ≡ some c) × (t : List ℕ) × Memᴰ t (running c) × (L < length t))
+    ((p : List ℕ) × (c : Chain) × (chain_at S M p ≡ Some c) × (t : List ℕ) × Memᴰ t (running c) × (L < length t))
     ⊎ ((t : List ℕ) × Memᴰ t (book_running S M url) × (L < length t))
 
 -- why a book is refused: by 15, where more files are taken in than the allowance; by 17, where a running text is over the limit; by any other number for such a fault, which is never 15 or 17
@@ -55,7 +54,7 @@ pub record OutcomeDemand3 (index contents list url : List ℕ) : Type 0 where
   -- "its text and count are as defined on chains"
   pub as_defined : (L B out work : ℕ) → book_checked index contents list url L out work ≡ (Ok tt)
       → (t : List ℕ) (n : ℕ) → book_outcome index contents list url L B out work ≡ text t n
-      → (book_text (file_set index contents) (listed index list) url ≡ some t) × CountsChains (file_set index contents) (listed index list) n
+      → (book_text (file_set index contents) (listed index list) url ≡ Some t) × CountsChains (file_set index contents) (listed index list) n
   -- "two calls that differ only in limits and buffers answer alike unless the first answers 15 or 17"
   pub alike : (L B out work L' B' out' work' : ℕ) → book_checked index contents list url L out work ≡ (Ok tt) → book_checked index contents list url L' out' work' ≡ (Ok tt) → L ≤ L' → B ≤ B'
       → (outcome_number (book_outcome index contents list url L B out work) ≡ 15 → ⊥) → (outcome_number (book_outcome index contents list url L B out work) ≡ 17 → ⊥)

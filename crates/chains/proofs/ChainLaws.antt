@@ -1,9 +1,9 @@
 -- Laws of chains: what the walk makes, where it fails, and what it tests and takes in, are what lies on the chains. Assumes nothing.
+use Rattle.std.specs.Prelude.{Option, Some, None}
 use Prim.Native.Nat.{ℕ, ◌+◌, ◌≤◌}
 use native.Mathlib.Omega.{arith}
 use mathlib.Core.Path.{◌≡◌, refl, sym, ◌∙◌}
 use mathlib.Core.List.{List, [], ◌∷◌, ◌++◌}
-use mathlib.Core.Option.{Option, none, some}
 use lib.ListN.{length, length-append}
 use Rattle.answer.specs.declared.Refusal.{Refusal}
 use Rattle.walk.specs.Parts.{part_made, part_faults, and_then, if_made}
@@ -16,9 +16,9 @@ use Rattle.embedding.specs.Embed.{embed}
 use Rattle.chains.specs.Chains.{Chain, wrong, plain, host, Rest, last, shut, into, headed, text_of, embedded, made, made_rest, faults, faults_rest, running, running_rest}
 use Rattle.chains.specs.Fill.{walk, walk_rest}
 
-none_then : {A B : Type 0} (o : Option A) → and_then {B = B} o (λ a. none) ≡ none
-none_then none = refl
-none_then (some a) = refl
+none_then : {A B : Type 0} (o : Option A) → and_then {B = B} o (λ a. None) ≡ None
+none_then None = refl
+none_then (Some a) = refl
 
 headed-faults : (g : HostRegion) → part_faults (headed g) ≡ g.faults
 headed-faults g = unless-faults g.faults []
@@ -127,12 +127,12 @@ module _ (f : List ℕ → ℕ) (n : ℕ) where
   mutual
     unfolding walk made longer running_rest total weigh go
 
-    pub walk_weigh : (c : Chain) (v : List ℕ) → made c ≡ some v → weigh f n (walk c) ≡ total f (running c) + sums f n (longer c)
+    pub walk_weigh : (c : Chain) (v : List ℕ) → made c ≡ Some v → weigh f n (walk c) ≡ total f (running c) + sums f n (longer c)
     walk_weigh (wrong x xs r) v e = let z : ◌≡◌ {A = ℕ} 0 1 = cc in absurd (omega arith)
     walk_weigh (plain s) v e = omega arith
     walk_weigh (host r) v e = walk_rest_weigh r [] v e
 
-    pub walk_rest_weigh : (r : Rest) (ls : List (List ℕ)) (v : List ℕ) → made_rest r ls ≡ some v → weigh f n (walk_rest r ls) ≡ total f (running_rest r ls) + sums f n (longer_rest r)
+    pub walk_rest_weigh : (r : Rest) (ls : List (List ℕ)) (v : List ℕ) → made_rest r ls ≡ Some v → weigh f n (walk_rest r ls) ≡ total f (running_rest r ls) + sums f n (longer_rest r)
     walk_rest_weigh (last us p) ls v e = omega arith
     walk_rest_weigh (shut g x r) ls v e = let z : ◌≡◌ {A = ℕ} 0 1 = cc in absurd (omega arith)
     walk_rest_weigh (into g d c r) ls v e =

@@ -5,7 +5,6 @@ use native.Mathlib.Omega.{arith}
 use mathlib.Core.Path.{◌≡◌, refl}
 use mathlib.Core.Bool.{Bool, true, false, cond}
 use mathlib.Core.List.{List, [], ◌∷◌, ◌++◌}
-use mathlib.Core.Option.{Option, none, some}
 use lib.ListN.{length, get_or, set}
 use lib.Dec.{eqb, ltb}
 use lib.IntN.{ℤ, pos, ◌+ℤ◌}
@@ -101,8 +100,8 @@ embed_fault g d v = unless_fault _ _ (past_fault (λ n. HeadingLevel (place d n)
 
 made_fault : (o : Option (List ℕ)) (g : HostRegion) (d : ℕ) → all_faults (if_made o (λ v. part_faults (embed g d v))) ≡ true
 unfolding all_faults
-made_fault none g d = refl
-made_fault (some v) g d = embed_fault g d v
+made_fault None g d = refl
+made_fault (Some v) g d = embed_fault g d v
 
 -- at each region of a host
 module _ (S : List File) (top : List ℕ) (m : List Bool) (k : ℕ) (more : ℕ → Chain) where
@@ -137,20 +136,20 @@ chain_fault zero S top m h = found-fault S top m h.number (λ d. plain []) h
 chain_fault (suc f) S top m h = found-fault S top m h.number (λ d. grow f S top (set m d true) (file_at S d)) h
 
 -- on every chain by list line and regions
-leads_fault : (S : List File) (top : List ℕ) (m : List Bool) (h : File) (p : List ℕ) (c : Chain) → leads S top m h p ≡ some c → all_faults (faults c) ≡ true
+leads_fault : (S : List File) (top : List ℕ) (m : List Bool) (h : File) (p : List ℕ) (c : Chain) → leads S top m h p ≡ Some c → all_faults (faults c) ≡ true
 unfolding leads
 leads_fault S top m h [] c e = let q : chain S top m h ≡ c = cc in rw (← q) (chain_fault (free m) S top m h)
 leads_fault S top m h (i ∷ p) c e = made_by (region_of (scanned h) i) _ c e (λ g a b. go (next S top m g) b (λ d. leads_fault S top (set m d true) (file_at S d) p c))
   where
-    go : (y : Next) → onward y (λ d. leads S top (set m d true) (file_at S d) p) ≡ some c
-        → ((d : ℕ) → leads S top (set m d true) (file_at S d) p ≡ some c → all_faults (faults c) ≡ true) → all_faults (faults c) ≡ true
+    go : (y : Next) → onward y (λ d. leads S top (set m d true) (file_at S d) p) ≡ Some c
+        → ((d : ℕ) → leads S top (set m d true) (file_at S d) p ≡ Some c → all_faults (faults c) ≡ true) → all_faults (faults c) ≡ true
     go (stop x) q ih = let z : ◌≡◌ {A = ℕ} 0 1 = cc in absurd (omega arith)
     go (on d) q ih = ih d q
 
-pub chain-at_fault : (S : List File) (M p : List ℕ) (c : Chain) → chain_at S M p ≡ some c → all_faults (faults c) ≡ true
+pub chain-at_fault : (S : List File) (M p : List ℕ) (c : Chain) → chain_at S M p ≡ Some c → all_faults (faults c) ≡ true
 chain-at_fault S M [] c e = let z : ◌≡◌ {A = ℕ} 0 1 = cc in absurd (omega arith)
 chain-at_fault S M (l ∷ p) c e = go (ltb l (length M)) e
   where
-    go : (b : Bool) → when b (leads S (file_at S (get_or M l 0)).name no_marks (file_at S (get_or M l 0)) p) ≡ some c → all_faults (faults c) ≡ true
+    go : (b : Bool) → when b (leads S (file_at S (get_or M l 0)).name no_marks (file_at S (get_or M l 0)) p) ≡ Some c → all_faults (faults c) ≡ true
     go true q = leads_fault S (file_at S (get_or M l 0)).name no_marks (file_at S (get_or M l 0)) p c q
     go false q = let z : ◌≡◌ {A = ℕ} 0 1 = cc in absurd (omega arith)

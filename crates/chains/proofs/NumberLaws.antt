@@ -5,7 +5,6 @@ use Prim.Native.Nat.{ℕ, zero, suc, ◌-◌}
 use mathlib.Core.Path.{◌≡◌, refl}
 use mathlib.Core.Bool.{Bool, true, false, cond}
 use mathlib.Core.List.{List, [], ◌∷◌, ◌++◌}
-use mathlib.Core.Option.{Option, none, some}
 use lib.ListN.{get_or, set, take, drop}
 use lib.Dec.{eqb}
 use Rattle.answer.specs.Answer.{place}
@@ -63,8 +62,8 @@ peer_made true None p q a = refl
 peer_made false None p q a = refl
 
 then_same : {A C : Type 0} (o : Option A) (f g : A → Option C) → ((a : A) → f a ≡ g a) → and_then o f ≡ and_then o g
-then_same none f g h = refl
-then_same (some a) f g h = h a
+then_same None f g h = refl
+then_same (Some a) f g h = h a
 
 module _ (S : List File) (top : List ℕ) (m : List Bool) (more : ℕ → Chain) (name t : List ℕ) (ls : List (List ℕ)) (own : List LineKind) where
   -- a region of the file with the number k, n lines standing before the last closer
@@ -84,8 +83,8 @@ module _ (S : List File) (top : List ℕ) (m : List Bool) (more : ℕ → Chain)
   into-same : (j k n : ℕ) (g : Region) (d : ℕ) (c : Chain) (r q : Rest) → Same r q → Same (into (region_of j n g) d c r) (into (region_of k n g) d c q)
   unfolding made_rest embed
   into-same j k n g d c r q h us =
-      let none : List (List ℕ) = [] in
-      rw (peer_made g.peer (above g.opener.line own) (place j g.opener.line) (place k g.opener.line) none)
+      let None : List (List ℕ) = [] in
+      rw (peer_made g.peer (above g.opener.line own) (place j g.opener.line) (place k g.opener.line) None)
       (then_same (part_made (headed (region_of k n g))) _ _ (λ u. then_same (embedded (region_of k n g) d (made c)) _ _ (λ e. h ((us ++ (region_of k n g).before) ++ e))))
 
   branch_same : (j k n : ℕ) (g : Region) (r q : Rest) → Same r q

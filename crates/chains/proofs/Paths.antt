@@ -1,10 +1,10 @@
 -- The chains by list line and regions, and those of the tree: the same, each once. Assumes nothing.
+use Rattle.std.specs.Prelude.{Option, Some, None}
 use Prim.Native.Nat.{ℕ, zero, suc, ◌+◌, ◌≤◌, ◌<◌}
 use native.Mathlib.Omega.{arith}
 use mathlib.Core.Path.{◌≡◌, refl, sym, ◌∙◌}
 use mathlib.Core.Bool.{Bool, true, false, cond, ◌&&◌}
 use mathlib.Core.List.{List, [], ◌∷◌, ◌++◌, map}
-use mathlib.Core.Option.{Option, none, some}
 use borrow.Author.Tests.{eq-eqb, eqb-true}
 use lib.Dec.{eqb, leb-suc-zero, leb-suc-suc, leb-zero, eqb-suc-zero, eqb-zero-suc, eqb-suc-suc}
 use lib.ListN.{length, set, length-map, length-set, length-replicate}
@@ -120,8 +120,8 @@ module _ (f : Chain → ℕ) where
   hit p x = pick_n (same p x.0) (f x.1)
 
   abbrev pub worth : Option Chain → ℕ
-  worth none = 0
-  worth (some c) = f c
+  worth None = 0
+  worth (Some c) = f c
 
   module _ (k l : List Trip) where
     fork-sum : (p : List ℕ) (a b : Trip → ℕ) → ((x : Trip) → hit p (via0 x) ≡ a x) → ((x : Trip) → hit p (via_next x) ≡ b x)
@@ -232,33 +232,33 @@ module _ (f : Chain → ℕ) where
 
   -- ---- f is 0 at every chain just where its sum over the tree's is
 
-  pub everywhere : (S : List File) (few : length S ≤ 64) (M : List ℕ) → total f (reached (starts S M)) ≡ 0 → (p : List ℕ) (c : Chain) → chain_at S M p ≡ some c → f c ≡ 0
+  pub everywhere : (S : List File) (few : length S ≤ 64) (M : List ℕ) → total f (reached (starts S M)) ≡ 0 → (p : List ℕ) (c : Chain) → chain_at S M p ≡ Some c → f c ≡ 0
   everywhere S few M h p c e =
       let t = bookTrips-all (starts S M) in
       let b = total_le (hit p) value (book_trips (starts S M)) (λ x. part_le (same p x.0) (f x.1)) in
       let z : worth (chain_at S M p) ≡ f c = rw e in
       omega (arith, bookTrips-once S few M p)
 
-  pub nowhere : (S : List File) (few : length S ≤ 64) (M : List ℕ) → ((p : List ℕ) (c : Chain) → chain_at S M p ≡ some c → f c ≡ 0) → total f (reached (starts S M)) ≡ 0
+  pub nowhere : (S : List File) (few : length S ≤ 64) (M : List ℕ) → ((p : List ℕ) (c : Chain) → chain_at S M p ≡ Some c → f c ≡ 0) → total f (reached (starts S M)) ≡ 0
   nowhere S few M h = sym (bookTrips-all (starts S M)) ∙ zero_total value (book_trips (starts S M)) (λ x m.
       let t = le_total (hit x.0) (book_trips (starts S M)) x m in
       let b : hit x.0 x ≡ f x.1 = rw (same_self x.0) in
       omega (arith, bookTrips-once S few M x.0, at-end (chain_at S M x.0) (h x.0)))
     where
-      at-end : (o : Option Chain) → ((c : Chain) → o ≡ some c → f c ≡ 0) → worth o ≡ 0
-      at-end none g = refl
-      at-end (some c) g = g c refl
+      at-end : (o : Option Chain) → ((c : Chain) → o ≡ Some c → f c ≡ 0) → worth o ≡ 0
+      at-end None g = refl
+      at-end (Some c) g = g c refl
 
-  pub somewhere : (S : List File) (few : length S ≤ 64) (M : List ℕ) → 0 < total f (reached (starts S M)) → (p : List ℕ) × (c : Chain) × (chain_at S M p ≡ some c) × (0 < f c)
+  pub somewhere : (S : List File) (few : length S ≤ 64) (M : List ℕ) → 0 < total f (reached (starts S M)) → (p : List ℕ) × (c : Chain) × (chain_at S M p ≡ Some c) × (0 < f c)
   somewhere S few M h =
       let r = total_some value (book_trips (starts S M)) (omega (arith, bookTrips-all (starts S M))) in
       let t = le_total (hit r.0.0) (book_trips (starts S M)) r.0 r.1 in
       let b : hit r.0.0 r.0 ≡ f r.0.1 = rw (same_self r.0.0) in
       at-end r.0.0 (chain_at S M r.0.0) refl (omega (arith, bookTrips-once S few M r.0.0, r.2))
     where
-      at-end : (p : List ℕ) (o : Option Chain) → chain_at S M p ≡ o → 0 < worth o → (p : List ℕ) × (c : Chain) × (chain_at S M p ≡ some c) × (0 < f c)
-      at-end p none e k = absurd (omega arith)
-      at-end p (some c) e k = (p, c, e, k)
+      at-end : (p : List ℕ) (o : Option Chain) → chain_at S M p ≡ o → 0 < worth o → (p : List ℕ) × (c : Chain) × (chain_at S M p ≡ Some c) × (0 < f c)
+      at-end p None e k = absurd (omega arith)
+      at-end p (Some c) e k = (p, c, e, k)
 
 -- ---- the chains of two or more files, counted
 
@@ -273,8 +273,8 @@ times_hit p (x ∷ l) = go (same p x.0) (times_hit p l)
     go false h = omega arith
 
 worth_once : (o : Option Chain) → worth (λ c. 1) o ≡ once_if o
-worth_once none = refl
-worth_once (some c) = refl
+worth_once None = refl
+worth_once (Some c) = refl
 
 pub counts_chains : (S : List File) (few : length S ≤ 64) (M : List ℕ) → CountsChains S M (length (extended (starts S M)))
 counts_chains S few M =

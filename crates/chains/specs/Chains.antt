@@ -1,7 +1,6 @@
 -- Document 01, "Records": chains, and what lies on them. No allowance, no limit and no walk.
 -- "a chain starts at a list line and goes on through each region that a scan of its last file finds, to a file of S not yet on it; what lies on a chain is reached."
 use Rattle.std.specs.Prelude.{ℕ, zero, suc, Bool, true, false, cond, ◌&&◌, List, [], ◌∷◌, ◌++◌, map, ◌≡◌, length, get_or, set, replicate, eqb, ltb, Option, Some, None}
-use Rattle.std.proofs.Math.Option.{Option, none, some}
 use Rattle.answer.specs.declared.Place.{Place}
 use Rattle.answer.specs.Answer.{place}
 use Rattle.answer.specs.declared.Refusal.{Refusal}
@@ -104,13 +103,13 @@ text_of ls = join LF ls
 -- the text that a chain's last file makes; ls are the lines made before
 unfoldable mutual
   pub made : Chain → Option (List ℕ)
-  made (wrong x xs r) = none
-  made (plain s) = some s
+  made (wrong x xs r) = None
+  made (plain s) = Some s
   made (host r) = made_rest r []
 
   pub made_rest : Rest → List (List ℕ) → Option (List ℕ)
-  made_rest (last us p) ls = some (text_of (ls ++ us))
-  made_rest (shut g x r) ls = none
+  made_rest (last us p) ls = Some (text_of (ls ++ us))
+  made_rest (shut g x r) ls = None
   made_rest (into g d c r) ls = and_then (part_made (headed g)) (λ u. and_then (embedded g d (made c)) (λ e. made_rest r ((ls ++ g.before) ++ e)))
 
 -- the faults at a chain's last file: 9 to 11; at each region 12, and 13, 14, or 16 where a text is made and cannot be embedded
@@ -146,36 +145,36 @@ starts S M = map (start S) M
 -- ---- chains by list line and regions
 
 unfoldable pub region_in : Regions → ℕ → Option HostRegion
-region_in (behind ls) i = none
-region_in (region g rs) zero = some g
+region_in (behind ls) i = None
+region_in (region g rs) zero = Some g
 region_in (region g rs) (suc i) = region_in rs i
 
 -- region i of those that a scan finds
 abbrev pub region_of : Scanned → ℕ → Option HostRegion
 region_of (problem x xs rs) i = region_in rs i
-region_of (noRegion s) i = none
+region_of (noRegion s) i = None
 region_of (regions rs) i = region_in rs i
 
 abbrev pub onward : {A : Type 0} → Next → (ℕ → Option A) → Option A
-onward (stop x) more = none
+onward (stop x) more = None
 onward (on d) more = more d
 
 -- where the regions p lead to from the file h: each is one that a scan of the last file finds, and leads on to a file that is not yet on the chain
 unfoldable pub leads : List File → List ℕ → List Bool → File → List ℕ → Option Chain
-leads S top m h [] = some (chain S top m h)
+leads S top m h [] = Some (chain S top m h)
 leads S top m h (i ∷ p) = and_then (region_of (scanned h) i) (λ g. onward (next S top m g) (λ d. leads S top (set m d true) (file_at S d) p))
 
 abbrev pub when : Bool → Option Chain → Option Chain
-when b o = cond b o none
+when b o = cond b o None
 
 -- the chain of a list line of M, from 0, and then regions, from 0; one of two or more files
 abbrev pub chain_at : List File → List ℕ → List ℕ → Option Chain
-chain_at S M [] = none
+chain_at S M [] = None
 chain_at S M (l ∷ p) = when (ltb l (length M)) (leads S (file_at S (get_or M l 0)).name no_marks (file_at S (get_or M l 0)) p)
 
 abbrev pub longer_at : List File → List ℕ → List ℕ → Option Chain
-longer_at S M [] = none
-longer_at S M (l ∷ []) = none
+longer_at S M [] = None
+longer_at S M (l ∷ []) = None
 longer_at S M (l ∷ i ∷ p) = chain_at S M (l ∷ i ∷ p)
 
 -- ---- how many chains
@@ -192,8 +191,8 @@ times_in p [] = 0
 times_in p (q ∷ qs) = cond (same p q) (suc (times_in p qs)) (times_in p qs)
 
 abbrev pub once_if : Option Chain → ℕ
-once_if none = 0
-once_if (some c) = 1
+once_if None = 0
+once_if (Some c) = 1
 
 -- "as many as the chains of two or more files, chains being told apart by list line and regions, not by names": n lists of list line and regions, among which each that leads to such
 -- a chain stands once, and no other

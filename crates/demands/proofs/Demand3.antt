@@ -1,9 +1,9 @@
 -- Demand 3 of the call book, proved: `specs/Demand3.antt` has what it says. Assumes nothing.
+use Rattle.std.specs.Prelude.{Some}
 use Prim.Native.Nat.{ℕ, ◌≤◌}
 use native.Mathlib.Omega.{arith}
 use mathlib.Core.Path.{◌≡◌, sym, ap, ◌∙◌}
 use mathlib.Core.List.{List}
-use mathlib.Core.Option.{some}
 use lib.ListN.{length, get_or}
 use Rattle.answer.specs.Answer.{numbers}
 use Rattle.fileset.proofs.PassedLaws.{book_fit}
@@ -30,7 +30,7 @@ module _ (index contents list url : List ℕ) where
     given-text h = accepted_text come (rw c.contract.numbers at h)
 
     module _ (t : List ℕ) (n : ℕ) (e : come ≡ text t n) where
-      text-made : book_text (file_set index contents) (listed index list) url ≡ some t
+      text-made : book_text (file_set index contents) (listed index list) url ≡ Some t
       text-made = (outcomes.as_defined c.L c.B (length c.out) (length c.work) c.passed t n e).0
 
       -- the text is within the limit, and the output holds it

@@ -1,7 +1,6 @@
 -- Demand 3 of the call book, on what its caller finds afterwards. S is the file set that an index and contents give, M the record of each list line. `Sound` and `book_text` are defined
 -- in `Book` of the crate `book`, chains in `Chains` of `chains`: by what lies on chains, and not by what a walk answers.
-use Rattle.std.specs.Prelude.{ℕ, ◌≤◌, List, ◌↔◌, ◌≡◌, length, take, drop, Ok}
-use Rattle.std.proofs.Math.Option.{some}
+use Rattle.std.specs.Prelude.{ℕ, ◌≤◌, List, ◌↔◌, ◌≡◌, length, take, drop, Ok, Some}
 use Rattle.answer.specs.declared.Refusal.{Refusal}
 use Rattle.fileset.specs.Check.{book_checked}
 use Rattle.chains.specs.Chains.{CountsChains}
@@ -34,7 +33,7 @@ pub record Demand3 (index contents list url : List ℕ) : Type 0 where
   pub exactly_when : (c : Call index contents list url) → Accepted c.answer ↔ Sound c.B c.L (file_set index contents) (listed index list) url
   -- "its text and count are as defined on chains"
   pub as_defined : (c : Call index contents list url) → Accepted c.answer
-      → ((t : List ℕ) × (book_text (file_set index contents) (listed index list) url ≡ some t) × (length_of c.answer ≡ length t) × Begins t c.out c.out')
+      → ((t : List ℕ) × (book_text (file_set index contents) (listed index list) url ≡ Some t) × (length_of c.answer ≡ length t) × Begins t c.out c.out')
       × CountsChains (file_set index contents) (listed index list) (files_of c.answer)
   -- "two calls that differ only in limits and buffers answer alike unless the first answers 15 or 17"
   pub alike : (c d : Call index contents list url) → c.L ≤ d.L → c.B ≤ d.B → (RefusedBy c.answer 15 → ⊥) → (RefusedBy c.answer 17 → ⊥)

@@ -1,6 +1,5 @@
 -- Document 01, "Assembly and book": a member emitted, and members joined.
-use Rattle.std.specs.Prelude.{ℕ, List, [], ◌∷◌, ◌++◌, map}
-use Rattle.std.proofs.Math.Option.{Option}
+use Rattle.std.specs.Prelude.{ℕ, List, [], ◌∷◌, ◌++◌, map, Option}
 use Rattle.answer.specs.Answer.{place}
 use Rattle.answer.specs.declared.Refusal.TheVariants.{HeadingLevel}
 use Rattle.text.specs.Pattern.{bytes}

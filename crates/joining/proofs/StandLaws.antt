@@ -1,4 +1,5 @@
 -- Laws of members that stand in their buffers, and of a work buffer that changes beside them. Assumes nothing.
+use Rattle.std.specs.Prelude.{Option}
 use Prim.Native.Nat.{ℕ, ◌≤◌, ◌<◌}
 use native.Mathlib.Omega.{arith}
 use mathlib.Core.Path.{◌≡◌, sym, subst, ap, ◌∙◌}
@@ -11,7 +12,6 @@ use Rattle.members.specs.Members.{member_at, text_source, prepared_in, prepared_
 use Rattle.members.specs.declared.Member.{Member}
 use Rattle.members.proofs.MembersLaws.{source_on, prepared_same, prepared_on, text-part, prepares}
 use Rattle.joining.specs.Joining.{CanEmit}
-use mathlib.Core.Option.{Option}
 use Rattle.shift.specs.Levels.{AreLevels}
 use Rattle.put.specs.declared.Source.{Source}
 use Rattle.walk.specs.Parts.{good}

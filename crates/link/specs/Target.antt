@@ -1,6 +1,5 @@
 -- Link targets: document 01's `anchor_self_links` and `rewrite_links`, as the Rust's `anchor_self` and `rewrite_target` make them.
 use Rattle.std.specs.Prelude.{ℕ, Bool, cond, not, ◌&&◌, ◌||◌, List, ◌∷◌, ◌++◌, length, take, drop, eqb, Option, Some, None}
-use Rattle.std.proofs.Math.Option.{Option as Maybe, none, some}
 use Rattle.text.specs.Bytes.{is, first, after_last}
 use Rattle.text.specs.Pattern.{bytes, starts_with, equals, contains}
 use Rattle.anchor.specs.Anchor.{slug}
@@ -27,16 +26,16 @@ outside url resolved = trim_slashes url ++ (bytes "/blob/main/" ++ resolved)
 
 -- a link to a member goes to the fragment, or where there is none to the anchor of its title; any other path goes to the repository and
 -- keeps its fragment
-abbrev pub placed : List ℕ → List ℕ → List ℕ → Maybe (List ℕ) → List ℕ
-placed url resolved fragment none = outside url resolved ++ fragment
-placed url resolved fragment (some title) = cond (eqb (length fragment) 0) (0x23 ∷ slug title) fragment
+abbrev pub placed : List ℕ → List ℕ → List ℕ → Option (List ℕ) → List ℕ
+placed url resolved fragment None = outside url resolved ++ fragment
+placed url resolved fragment (Some title) = cond (eqb (length fragment) 0) (0x23 ∷ slug title) fragment
 
 -- `rewrite_target`: titles gives the title of the member that has a name
-abbrev pub rewritten : (List ℕ → Maybe (List ℕ)) → List ℕ → List ℕ → List ℕ → Option ℕ → List ℕ
+abbrev pub rewritten : (List ℕ → Option (List ℕ)) → List ℕ → List ℕ → List ℕ → Option ℕ → List ℕ
 rewritten titles url dir t None = t
 rewritten titles url dir t (Some e) = placed url (resolve dir (take e t)) (drop e t) (titles (resolve dir (take e t)))
 
-unfoldable pub rewrite_target : (List ℕ → Maybe (List ℕ)) → List ℕ → List ℕ → List ℕ → List ℕ
+unfoldable pub rewrite_target : (List ℕ → Option (List ℕ)) → List ℕ → List ℕ → List ℕ → List ℕ
 rewrite_target titles url dir t = rewritten titles url dir t (target_of t)
 
 -- `anchor_self`: a path to the host with a fragment becomes the fragment

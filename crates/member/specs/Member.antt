@@ -1,6 +1,5 @@
 -- Document 01, "Assembly and book": a member, prepared.
-use Rattle.std.specs.Prelude.{ℕ, Bool, false, true, cond, List, [], ◌∷◌, eqb}
-use Rattle.std.proofs.Math.Option.{Option, none, some}
+use Rattle.std.specs.Prelude.{ℕ, Bool, false, true, cond, List, [], ◌∷◌, eqb, Option, Some, None}
 use Rattle.answer.specs.declared.Refusal.TheVariants.{NoTitle}
 use Rattle.text.specs.Bytes.{part}
 use Rattle.text.specs.Lines.{pieces}
@@ -31,17 +30,17 @@ pub record Prepared : Type 0 where
 -- "title is the first H1"
 abbrev pub title_in : LineKind → List ℕ → Option (List ℕ) → Option (List ℕ)
 title_in Quoted l o = o
-title_in (Heading n a e) l o = cond (eqb n 1) (some (part a e l)) o
+title_in (Heading n a e) l o = cond (eqb n 1) (Some (part a e l)) o
 title_in Other l o = o
 
 unfoldable pub title_of : List Told → Option (List ℕ)
-title_of [] = none
+title_of [] = None
 title_of (t ∷ ts) = title_in t.kind t.bytes (title_of ts)
 
 -- 18 "no H1 in a member; line 0"
 abbrev pub titled : File → List Told → Option (List ℕ) → Part Prepared
-titled h ts none = flawed (NoTitle h.number) []
-titled h ts (some t) = good (record { file = h.number; name = h.name; lines = ts; title = t })
+titled h ts None = flawed (NoTitle h.number) []
+titled h ts (Some t) = good (record { file = h.number; name = h.name; lines = ts; title = t })
 
 unfoldable pub prepare : File → Part Prepared
 prepare h = titled h (prepared_lines h.text) (title_of (prepared_lines h.text))

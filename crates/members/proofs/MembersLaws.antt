@@ -7,7 +7,6 @@ use native.Mathlib.Omega.{arith}
 use mathlib.Core.Path.{◌≡◌, refl, sym, ap, ◌∙◌}
 use mathlib.Core.Bool.{Bool, true, false, cond}
 use mathlib.Core.List.{List, [], ◌∷◌, ◌++◌}
-use mathlib.Core.Option.{none}
 use lib.Dec.{eqb, ltb}
 use lib.ListN.{length, take, drop, get_or, set, get_or-append}
 use lib.Seq.{sets, get_or-set_other, get_or-drop, length-sets, take-take, drop-drop}
@@ -331,7 +330,7 @@ module _ {size n limit stop : ℕ} {m : Member} (l : Lies size n limit stop m) (
       ap (titled f (prepared_lines f.text)) o.title
       ∙ rw (o.lines, ← text-part s contents work, ← title-part s contents work)
 
-  pub untitled : (index : List ℕ) → title_of (prepared_lines (source_text m.source contents work)) ≡ none → prepare (file_in index contents work m) ≡ flawed (NoTitle m.file) []
+  pub untitled : (index : List ℕ) → title_of (prepared_lines (source_text m.source contents work)) ≡ None → prepare (file_in index contents work m) ≡ flawed (NoTitle m.file) []
   unfolding prepare
   untitled index e = rw e
 

@@ -1,12 +1,11 @@
 -- Laws for the loop that prepares a member: the lines kept so far, the title and the levels among them, and where those that are not blank end.
 -- Assumes nothing.
-use Rattle.std.specs.Prelude.{None}
+use Rattle.std.specs.Prelude.{None, Some}
 use Prim.Native.Nat.{ℕ, zero, suc, ◌+◌, ◌^◌, ◌≤◌, ◌<◌}
 use native.Mathlib.Omega.{arith}
 use mathlib.Core.Path.{◌≡◌, refl, sym, ap, ◌∙◌, subst}
 use mathlib.Core.Bool.{Bool, true, false, cond}
 use mathlib.Core.List.{List, [], ◌∷◌, ◌++◌, append_assoc, append-nil}
-use mathlib.Core.Option.{none, some}
 use lib.ListN.{length, take}
 use lib.Seq.{length-take-le, take-length}
 use lib.Dec.{eqb}
@@ -75,7 +74,7 @@ pub record Entitled (s : List ℕ) (ts : List Told) (at e : ℕ) (x : Part) : Ty
   pub within : e ≤ length s
   pub before : e ≤ at
   pub lines : trimmed ts ≡ kept_lines (take e s)
-  pub title : title_of (kept_lines s) ≡ some (part x.start x.end s)
+  pub title : title_of (kept_lines s) ≡ Some (part x.start x.end s)
   pub forward : x.start ≤ x.end
   pub inside : x.end ≤ e
 
@@ -111,7 +110,7 @@ module _ {s : List ℕ} {c d : LineCursor} {a e : ℕ} (ts : List Told) (r : Rea
           }
 
   -- the title
-  entitled-first : {n x y : ℕ} (m : ℕ) (l : IsLine s c a e (Heading n x y) d) → title_of (kept_lines s) ≡ some (part x y (part a e s))
+  entitled-first : {n x y : ℕ} (m : ℕ) (l : IsLine s c a e (Heading n x y) d) → title_of (kept_lines s) ≡ Some (part x y (part a e s))
       → Entitled s (ts ++ (line l ∷ [])) d.at (cond (is_blank (part a e s)) m e) (record { start = a + x; end = a + y })
   entitled-first {n} {x} {y} m l q =
       let w = kind-within c.state.fence c.state.comment (part a e s) n x y (sym l.kind) in
@@ -121,7 +120,7 @@ module _ {s : List ℕ} {c d : LineCursor} {a e : ℕ} (ts : List Told) (r : Rea
         within = l.within;
         before = omega (arith, behind l);
         lines = trimmed_last ts (line l) b ∙ sym (reach_here l ts r);
-        title = q ∙ ap some (sym (part-part s a e x y (omega (arith, l.forward))));
+        title = q ∙ ap Some (sym (part-part s a e x y (omega (arith, l.forward))));
         forward = omega arith;
         inside = omega (arith, l.forward);
       })
@@ -135,7 +134,7 @@ module _ {s : List ℕ} {c d : LineCursor} {a e : ℕ} (ts : List Told) (r : Rea
   seen-line false Other m x l h = h ∙ title_turn l.left
   seen-line false (Heading n i j) m x l h = go (eqb n 1) (h ∙ title_turn l.left)
     where
-      go : (b : Bool) → title_of (kept_lines s) ≡ cond b (some (part i j (part a e s))) (title_of (left_of d s))
+      go : (b : Bool) → title_of (kept_lines s) ≡ cond b (Some (part i j (part a e s))) (title_of (left_of d s))
           → HasSeen s (ts ++ (line l ∷ [])) d b (cond (is_blank (part a e s)) m e) (cond b (record { start = a + i; end = a + j }) x)
       go true q = entitled-first m l q
       go false q = q
@@ -207,7 +206,7 @@ module _ {s : List ℕ} {c : LineCursor} {z : Seen} (o : Outlines s c z) (e : le
       ∙ ap (λ (ts : List Told). o.told ++ ts) e
       ∙ append-nil o.told
 
-  pub outlines_untitled : z.titled ≡ false → title_of (prepared_lines s) ≡ none
+  pub outlines_untitled : z.titled ≡ false → title_of (prepared_lines s) ≡ None
   unfolding title_of
   outlines_untitled q = let h = rw q at o.seen in prepared_title s ∙ h ∙ ap title_of e
 

@@ -6,7 +6,6 @@ use native.Mathlib.Omega.{arith}
 use mathlib.Core.Path.{◌≡◌, refl, sym, ap, ◌∙◌}
 use mathlib.Core.Bool.{Bool, true, false, cond}
 use mathlib.Core.List.{List, [], ◌∷◌, ◌++◌}
-use mathlib.Core.Option.{none}
 use lib.Dec.{eqb}
 use Rattle.heading.specs.Level.{shallower, shallowest_of, deeper, deepest_of, IsLevel}
 use Rattle.heading.specs.declared.walk.LineKind.{LineKind}
@@ -68,12 +67,12 @@ unfolding title_of
 title_turn p = rw p
 
 -- lines that are no headings have no title
-title-none : (ts : List Told) → Plain ts → title_of ts ≡ none
+title-none : (ts : List Told) → Plain ts → title_of ts ≡ None
 unfolding title_of Plain
 title-none [] p = refl
 title-none (t ∷ ts) p = by t.kind p.0 (title-none ts p.1)
   where
-    by : (k : LineKind) → IsPlain k → title_of ts ≡ none → title_in k t.bytes (title_of ts) ≡ none
+    by : (k : LineKind) → IsPlain k → title_of ts ≡ None → title_in k t.bytes (title_of ts) ≡ None
     by Quoted q e = e
     by (Heading n x y) q e = absurd q
     by Other q e = e

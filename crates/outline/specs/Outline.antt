@@ -1,6 +1,5 @@
 -- What is known of a member once it is prepared. Nothing here is document 01's: functions promise it.
 use Rattle.std.specs.Prelude.{ℕ, ◌+◌, ◌≤◌, ◌≡◌, true, false, List, length, take, Option, Some, None, Result, Ok, Err}
-use Rattle.std.proofs.Math.Option.{none, some}
 use Rattle.std.specs.Int.Signed.{mag}
 use Rattle.text.specs.Bytes.{part}
 use Rattle.heading.specs.Level.{any_past, first_past}
@@ -15,14 +14,14 @@ use Rattle.outline.specs.declared.Outline.{Outline}
 pub record IsOutline (s : List ℕ) (o : Outline) : Type 0 where
   pub within : o.end ≤ length s
   pub lines : prepared_lines s ≡ kept_lines (take o.end s)
-  pub title : title_of (prepared_lines s) ≡ some (part o.title.start o.title.end s)
+  pub title : title_of (prepared_lines s) ≡ Some (part o.title.start o.title.end s)
   pub forward : o.title.start ≤ o.title.end
   pub inside : o.title.end ≤ o.end
   pub levels : AreLevels (kinds_of (movable (prepared_lines s))) o.levels.top o.levels.deepest
 
 abbrev pub FoundOutline : List ℕ → Option Outline → Type 0
 FoundOutline s (Some o) = IsOutline s o
-FoundOutline s None = title_of (prepared_lines s) ≡ none
+FoundOutline s None = title_of (prepared_lines s) ≡ None
 
 -- the kinds of the lines kept of s, the first H1 being no heading to be moved
 abbrev pub moved_kinds : List ℕ → List LineKind

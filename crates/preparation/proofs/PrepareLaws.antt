@@ -1,10 +1,10 @@
 -- Laws of members that are prepared one after the other. Assumes nothing.
+use Rattle.std.specs.Prelude.{Some, None}
 use Prim.Native.Nat.{ℕ, zero, suc, ◌+◌, ◌*◌, ◌≤◌, ◌<◌}
 use native.Mathlib.Omega.{arith}
 use mathlib.Core.Path.{◌≡◌, refl, sym, ap, ◌∙◌, subst}
 use mathlib.Core.Bool.{Bool, true, false}
 use mathlib.Core.List.{List, []}
-use mathlib.Core.Option.{none, some}
 use lib.Dec.{eqb}
 use lib.ListN.{length}
 use lib.Seq.{sets}
@@ -55,7 +55,7 @@ module _ (index contents work set : List ℕ) where
   prepare_stops i n x xs h e g = stopped-from i x xs e g 0 n (omega arith) (omega arith)
 
 -- a file with a title is prepared
-pub prepare_good : (h : File) (t : List ℕ) → title_of (prepared_lines h.text) ≡ some t → IsGood (prepare h)
+pub prepare_good : (h : File) (t : List ℕ) → title_of (prepared_lines h.text) ≡ Some t → IsGood (prepare h)
 unfolding prepare
 prepare_good h t e = (record { file = h.number; name = h.name; lines = prepared_lines h.text; title = t }, ap (titled h (prepared_lines h.text)) e)
 
@@ -113,7 +113,7 @@ abbrev with_outline : Member → Outline → Member
 with_outline m o = record { name = m.name; file = m.file; source = m.source; outline = o }
 
 module _ {contents work old new : List ℕ} {i n : ℕ} (f : SoFar contents work old new i n) (h : i < n) where
-  pub far_stops : title_of (prepared_lines (source_text (member_at new i).source contents work)) ≡ none → (index : List ℕ)
+  pub far_stops : title_of (prepared_lines (source_text (member_at new i).source contents work)) ≡ None → (index : List ℕ)
       → prepare_all (files_from index contents work old 0 n) ≡ failed (NoTitle (member_at new i).file)
   unfolding prepare
   far_stops e index =
@@ -152,9 +152,9 @@ module _ {contents work old new : List ℕ} {i n : ℕ} (f : SoFar contents work
   read_inside size room p =
       subst (λ (s : Source). Inside s 0 size room) (sym (ap (λ (x : Member). x.source) e ∙ (f.same i h).source)) (p.inside i h)
 
-  pub read_stops : title_of (prepared_lines (source_text m.source contents work)) ≡ none → (index : List ℕ) → prepare_all (files_from index contents work old 0 n) ≡ failed (NoTitle m.file)
+  pub read_stops : title_of (prepared_lines (source_text m.source contents work)) ≡ None → (index : List ℕ) → prepare_all (files_from index contents work old 0 n) ≡ failed (NoTitle m.file)
   read_stops =
-      subst (λ (x : Member). title_of (prepared_lines (source_text x.source contents work)) ≡ none → (index : List ℕ) → prepare_all (files_from index contents work old 0 n) ≡ failed (NoTitle x.file))
+      subst (λ (x : Member). title_of (prepared_lines (source_text x.source contents work)) ≡ None → (index : List ℕ) → prepare_all (files_from index contents work old 0 n) ≡ failed (NoTitle x.file))
       (sym e) (far_stops f h)
 
   pub read_next : (o : Outline) → length new ≡ 704 → n ≤ 64 → IsOutline (source_text m.source contents work) o → (v : List ℕ)

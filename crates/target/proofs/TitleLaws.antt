@@ -1,12 +1,11 @@
 -- Laws of `specs/Titles.antt`: the last member of a name, and a name that is too long for any. Assumes nothing.
-use Rattle.std.specs.Prelude.{Some, None}
+use Rattle.std.specs.Prelude.{Some, None, Option}
 use Prim.Native.Nat.{ℕ, zero, suc, ◌+◌, ◌-◌, ◌≤◌, ◌<◌}
 use native.Mathlib.Numerals.{add-one}
 use native.Mathlib.Omega.{arith}
 use mathlib.Core.Path.{◌≡◌, refl, sym, ap, ◌∙◌}
 use mathlib.Core.Bool.{Bool, true, false, cond}
 use mathlib.Core.List.{List, [], ◌∷◌, ◌++◌}
-use mathlib.Core.Option.{Option, none, some}
 use lib.ListN.{length, take, drop, length-drop}
 use borrow.Author.Tests.{eq-eqb, ne_eqb}
 use Rattle.text.specs.Pattern.{equals}
@@ -28,26 +27,26 @@ use Rattle.pointer.proofs.PutLaws.{front}
 use Rattle.target.specs.Titles.{title_named, titles_in, Named, FoundMember, TitleIn, inside}
 
 -- one more member at the end
-named-last : (ms : List Prepared) (m : Prepared) (name : List ℕ) → title_named (ms ++ (m ∷ [])) name ≡ cond (equals m.name name) (some m.title) (title_named ms name)
+named-last : (ms : List Prepared) (m : Prepared) (name : List ℕ) → title_named (ms ++ (m ∷ [])) name ≡ cond (equals m.name name) (Some m.title) (title_named ms name)
 unfolding title_named
 named-last [] m name = refl
 named-last (k ∷ ms) m name = rw (named-last ms m name) (go (equals m.name name) (title_named ms name))
   where
     go : (b : Bool) (o : Option (List ℕ))
-        → ◌≡◌ {A = Option (List ℕ)} (elim (cond b (some m.title) o) [ none ↦ cond (equals k.name name) (some k.title) none | some t ↦ some t ])
-        (cond b (some m.title) (elim o [ none ↦ cond (equals k.name name) (some k.title) none | some t ↦ some t ]))
+        → ◌≡◌ {A = Option (List ℕ)} (elim (cond b (Some m.title) o) [ None ↦ cond (equals k.name name) (Some k.title) None | Some t ↦ Some t ])
+        (cond b (Some m.title) (elim o [ None ↦ cond (equals k.name name) (Some k.title) None | Some t ↦ Some t ]))
     go true o = refl
     go false o = refl
 
 titles_more : (index contents work set : List ℕ) (n : ℕ) (name : List ℕ)
-    → titles_in index contents work set (n + 1) name ≡ cond (equals (name_of index (member_at set n)) name) (some (source_text (title_source (member_at set n)) contents work)) (titles_in index contents work set n name)
+    → titles_in index contents work set (n + 1) name ≡ cond (equals (name_of index (member_at set n)) name) (Some (source_text (title_source (member_at set n)) contents work)) (titles_in index contents work set n name)
 titles_more index contents work set n name =
     let z : 0 + n ≡ n = omega arith in
     ap (λ (ms : List Prepared). title_named ms name) (prepared_more index contents work set 0 n)
     ∙ named-last (prepared_from index contents work set 0 n) (prepared_in index contents work (member_at set (0 + n))) name
     ∙ rw z
 
-titles_none : (index contents work set name : List ℕ) → titles_in index contents work set 0 name ≡ none
+titles_none : (index contents work set name : List ℕ) → titles_in index contents work set 0 name ≡ None
 unfolding title_named prepared_from
 titles_none index contents work set name = refl
 
@@ -63,7 +62,7 @@ module _ {index set : List ℕ} {count : ℕ} {name : List ℕ} {k : ℕ} (p : S
   module _ (some_left : 0 < k) where
     next : (c w : List ℕ)
         → titles_in index c w set count name
-        ≡ cond (equals (name_of index (member_at set (k - 1))) name) (some (source_text (title_source (member_at set (k - 1))) c w)) (titles_in index c w set (k - 1) name)
+        ≡ cond (equals (name_of index (member_at set (k - 1))) name) (Some (source_text (title_source (member_at set (k - 1))) c w)) (titles_in index c w set (k - 1) name)
     next c w = let e : k ≡ k - 1 + 1 = omega arith in p.same c w ∙ ap (λ (n : ℕ). titles_in index c w set n name) e ∙ titles_more index c w set (k - 1) name
 
     module _ {m : Member} (is : m ≡ member_at set (k - 1)) {b : Bool} (same : b ≡ equals (name_of index m) name) where
@@ -91,7 +90,7 @@ module _ {index : List ℕ} {n limit stop : ℕ} {set : List ℕ} {count : ℕ} 
   pub title_in : (k : ℕ) → k < count → TitleIn (member_at set k)
   title_in k h = let s = all.stand k h in (s.order, omega (arith, s.text, s.title))
 
-  long-none : (c w name : List ℕ) → 255 < length name → (k : ℕ) → k ≤ count → titles_in index c w set k name ≡ none
+  long-none : (c w name : List ℕ) → 255 < length name → (k : ℕ) → k ≤ count → titles_in index c w set k name ≡ None
   long-none c w name h zero j = titles_none index c w set name
   long-none c w name h (suc k) j =
       let m = member_at set k in
@@ -99,7 +98,7 @@ module _ {index : List ℕ} {n limit stop : ℕ} {set : List ℕ} {count : ℕ} 
       ∙ rw (other_length (name_of index m) name (omega (arith, part_length index m.name.start m.name.end, (all.stand k (omega arith)).lies.short))) (long-none c w name h k (omega arith)))
 
   -- a path of more than 255 bytes names no member
-  pub long_path : (c w name : List ℕ) → 255 < length name → titles_in index c w set count name ≡ none
+  pub long_path : (c w name : List ℕ) → 255 < length name → titles_in index c w set count name ≡ None
   long_path c w name h = long-none c w name h count (omega arith)
 
   -- titles stay what they were while the work buffer is written below the limit
@@ -125,10 +124,10 @@ module _ (titles : List ℕ → Option (List ℕ)) (url dir t : List ℕ) where
 
 -- a path that names a member or not
 module _ (url path fragment : List ℕ) (o : Option (List ℕ)) where
-  pub placed-inside : (title : List ℕ) → o ≡ some title → placed url path fragment o ≡ inside fragment title
+  pub placed-inside : (title : List ℕ) → o ≡ Some title → placed url path fragment o ≡ inside fragment title
   placed-inside title e = rw e
 
-  pub placed-outside : o ≡ none → placed url path fragment o ≡ outside url path ++ fragment
+  pub placed-outside : o ≡ None → placed url path fragment o ≡ outside url path ++ fragment
   placed-outside e = rw e
 
 -- the path of a target, resolved at the end of 256 bytes or longer than they are

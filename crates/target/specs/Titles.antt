@@ -1,6 +1,5 @@
 -- The titles of members by their names, and what a link to one of them becomes.
 use Rattle.std.specs.Prelude.{ℕ, ◌+◌, ◌≤◌, ◌<◌, ◌≡◌, cond, List, [], ◌∷◌, eqb, length, Option, Some, None}
-use Rattle.std.proofs.Math.Option.{Option, none, some}
 use Rattle.text.specs.Pattern.{equals}
 use Rattle.anchor.specs.Anchor.{slug}
 use Rattle.put.specs.Put.{source_text}
@@ -10,8 +9,8 @@ use Rattle.members.specs.declared.Member.{Member}
 
 -- Document 01, "Assembly and book": "For a name listed twice the later title serves links."
 unfoldable pub title_named : List Prepared → List ℕ → Option (List ℕ)
-title_named [] name = none
-title_named (m ∷ ms) name = elim (title_named ms name) [ none ↦ cond (equals m.name name) (some m.title) none | some t ↦ some t ]
+title_named [] name = None
+title_named (m ∷ ms) name = elim (title_named ms name) [ None ↦ cond (equals m.name name) (Some m.title) None | Some t ↦ Some t ]
 
 -- Nothing from here on is document 01's: functions promise it. The titles of n members by their names
 abbrev pub titles_in : List ℕ → List ℕ → List ℕ → List ℕ → ℕ → List ℕ → Option (List ℕ)
@@ -26,8 +25,8 @@ pub record Named (index set : List ℕ) (n : ℕ) : Type 0 where
 -- the last of n members that has a name, whatever the buffers hold
 abbrev pub FoundMember : List ℕ → List ℕ → ℕ → List ℕ → Option ℕ → Type 0
 FoundMember index set n name (Some k) =
-    (k < n) × ((contents work : List ℕ) → titles_in index contents work set n name ≡ some (source_text (title_source (member_at set k)) contents work))
-FoundMember index set n name None = (contents work : List ℕ) → titles_in index contents work set n name ≡ none
+    (k < n) × ((contents work : List ℕ) → titles_in index contents work set n name ≡ Some (source_text (title_source (member_at set k)) contents work))
+FoundMember index set n name None = (contents work : List ℕ) → titles_in index contents work set n name ≡ None
 
 -- a member's title lies in its text
 abbrev pub TitleIn : Member → Type 0

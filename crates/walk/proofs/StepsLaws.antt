@@ -1,9 +1,9 @@
 -- Laws of `specs/Steps.antt`: walks one after the other, and what stands behind a judgement. Assumes nothing.
+use Rattle.std.specs.Prelude.{Some}
 use mathlib.Core.Path.{◌≡◌, refl, sym, ap}
 use mathlib.Core.Bool.{Bool, true, false, cond}
 use mathlib.Core.List.{List}
 use mathlib.Core.Logic.{◌⊎◌, inl, inr}
-use mathlib.Core.Option.{some}
 use Prim.Native.Nat.{ℕ, suc, ◌+◌, ◌-◌, ◌≤◌, ◌<◌}
 use native.Mathlib.Omega.{arith}
 use lib.Dec.{leb, ltb}
@@ -49,7 +49,7 @@ weigh_sizes f (failed x) = refl
 weigh_sizes f (sized t p w) = let h = weigh_sizes f w in omega arith
 weigh_sizes f (taken p w) = let h = weigh_sizes f w in omega arith
 
-pub weigh_go : {A B : Type 0} (f : List ℕ → ℕ) (n : ℕ) (w : Steps A) (g : A → Steps B) (a : A) → ends w ≡ some a
+pub weigh_go : {A B : Type 0} (f : List ℕ → ℕ) (n : ℕ) (w : Steps A) (g : A → Steps B) (a : A) → ends w ≡ Some a
     → weigh f n (go w g) ≡ weigh f n w + weigh f n (g a)
 unfolding weigh go ends
 weigh_go f n (done b) g a e = let h : b ≡ a = cc in rw h (omega arith)
@@ -62,7 +62,7 @@ unfolding weigh
 weigh_part f n (good a) = refl
 weigh_part f n (flawed x xs) = refl
 
-pub weigh_go_le : {A B : Type 0} (f : List ℕ → ℕ) (n : ℕ) (w : Steps A) (g : A → Steps B) (k j : ℕ) → weigh f n w ≤ k → ((a : A) → ends w ≡ some a → weigh f n (g a) ≤ j) → weigh f n (go w g) ≤ k + j
+pub weigh_go_le : {A B : Type 0} (f : List ℕ → ℕ) (n : ℕ) (w : Steps A) (g : A → Steps B) (k j : ℕ) → weigh f n w ≤ k → ((a : A) → ends w ≡ Some a → weigh f n (g a) ≤ j) → weigh f n (go w g) ≤ k + j
 unfolding weigh go ends
 weigh_go_le f n (done a) g k j h l = omega (arith, l a refl)
 weigh_go_le f n (failed x) g k j h l = omega arith
@@ -76,14 +76,14 @@ flaw f (failed x) = f x
 flaw f (sized t p w) = flaw f w
 flaw f (taken p w) = flaw f w
 
-pub flaw_fails : {A : Type 0} (f : Refusal → ℕ) (w : Steps A) (x : Refusal) → fails w ≡ some x → flaw f w ≡ f x
+pub flaw_fails : {A : Type 0} (f : Refusal → ℕ) (w : Steps A) (x : Refusal) → fails w ≡ Some x → flaw f w ≡ f x
 unfolding flaw fails
 flaw_fails f (done a) x e = let z : ◌≡◌ {A = ℕ} 0 1 = cc in absurd (omega arith)
 flaw_fails f (failed y) x e = let h : y ≡ x = cc in rw h
 flaw_fails f (sized t p w) x e = flaw_fails f w x e
 flaw_fails f (taken p w) x e = flaw_fails f w x e
 
-pub flaw_go : {A B : Type 0} (f : Refusal → ℕ) (w : Steps A) (g : A → Steps B) (k j : ℕ) → flaw f w ≤ k → ((a : A) → ends w ≡ some a → flaw f (g a) ≤ j) → flaw f (go w g) ≤ k + j
+pub flaw_go : {A B : Type 0} (f : Refusal → ℕ) (w : Steps A) (g : A → Steps B) (k j : ℕ) → flaw f w ≤ k → ((a : A) → ends w ≡ Some a → flaw f (g a) ≤ j) → flaw f (go w g) ≤ k + j
 unfolding flaw go ends
 flaw_go f (done a) g k j h l = omega (arith, l a refl)
 flaw_go f (failed x) g k j h l = omega arith
@@ -103,13 +103,13 @@ over L t = length t - L
 
 -- what stands behind a given answer
 pub record Granted {A : Type 0} (B L n : ℕ) (w : Steps A) (a : A) (m : ℕ) : Type 0 where
-  pub ended : ends w ≡ some a
+  pub ended : ends w ≡ Some a
   pub count : m ≡ n + takes w
   pub allowed : m ≤ B
   pub fits : total (over L) (sizes w) ≡ 0
 
 module _ {A : Type 0} (B L : ℕ) where
-  pub judge-given : (n : ℕ) (w : Steps A) (a : A) → ends w ≡ some a → n + takes w ≤ B → total (over L) (sizes w) ≡ 0 → judge B L n w ≡ given a (n + takes w)
+  pub judge-given : (n : ℕ) (w : Steps A) (a : A) → ends w ≡ Some a → n + takes w ≤ B → total (over L) (sizes w) ≡ 0 → judge B L n w ≡ given a (n + takes w)
   unfolding judge ends takes sizes total
   judge-given n (done b) a e h s = let q : b ≡ a = cc in let r : n + 0 ≡ n = omega arith in rw (q, r)
   judge-given n (failed x) a e h s = let z : ◌≡◌ {A = ℕ} 0 1 = cc in absurd (omega arith)
@@ -160,7 +160,7 @@ module _ {A : Type 0} (B L : ℕ) where
 
 -- what stands behind a refusal: the fault that the walk ends in, 15 with more files than the allowance, or 17 with a running text over the limit
 abbrev pub Grounds : {A : Type 0} → ℕ → ℕ → ℕ → Steps A → Refusal → Type 0
-Grounds B L n w x = (fails w ≡ some x) ⊎ (((number x ≡ 15) × (B < n + takes w)) ⊎ ((number x ≡ 17) × (0 < total (over L) (sizes w))))
+Grounds B L n w x = (fails w ≡ Some x) ⊎ (((number x ≡ 15) × (B < n + takes w)) ⊎ ((number x ≡ 17) × (0 < total (over L) (sizes w))))
 
 pub refused_judge : {A : Type 0} (B L n : ℕ) (w : Steps A) (x : Refusal) → judge B L n w ≡ refused x → Grounds B L n w x
 unfolding judge fails takes sizes total

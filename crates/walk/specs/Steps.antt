@@ -1,6 +1,5 @@
 -- A walk without its limits: the tests that it makes, in document 01's order, and how it ends. The allowance B and the limit L judge it.
-use Rattle.std.specs.Prelude.{ℕ, suc, cond, List, [], ◌∷◌, leb, ltb, length}
-use Rattle.std.proofs.Math.Option.{Option, none, some}
+use Rattle.std.specs.Prelude.{ℕ, suc, cond, List, [], ◌∷◌, leb, ltb, length, Option, Some, None}
 use Rattle.answer.specs.Answer.{number}
 use Rattle.answer.specs.declared.Place.{Place}
 use Rattle.answer.specs.declared.Refusal.{Refusal}
@@ -27,15 +26,15 @@ part (flawed x xs) = failed x
 
 -- what is made, unless there is a fault
 unfoldable pub ends : {A : Type 0} → Steps A → Option A
-ends (done a) = some a
-ends (failed x) = none
+ends (done a) = Some a
+ends (failed x) = None
 ends (sized t p w) = ends w
 ends (taken p w) = ends w
 
 -- the fault that it ends in, if it does
 unfoldable pub fails : {A : Type 0} → Steps A → Option Refusal
-fails (done a) = none
-fails (failed x) = some x
+fails (done a) = None
+fails (failed x) = Some x
 fails (sized t p w) = fails w
 fails (taken p w) = fails w
 
