@@ -21,6 +21,7 @@ use Rattle.marker.specs.declared.line.Kind.TheVariants.{Plain, Fence, Fault, Clo
 use Rattle.marker.specs.declared.span.Stop.{Stop}
 use Rattle.marker.specs.declared.span.Stop.TheVariants.{AtProblem, AtSpanEnd}
 use Rattle.scan.specs.Scan.{Reading, read_line, stop_events, span_events, closed_by, events_of, after, kind_at, unclosed, last_of, scan_from, begin, scan, regions_of}
+use Rattle.scan.specs.declared.state.Opener.{Opener}
 use Rattle.scan.specs.declared.event.Event.{Event}
 use Rattle.scan.specs.declared.event.Event.TheVariants.{OfSpan, OfRegion, OfProblem}
 use Rattle.scan.specs.declared.event.Region.{Region}
