@@ -10,8 +10,9 @@ use lib.Dec.{eqb}
 use borrow.Author.Tests.{ne_eqb}
 use Rattle.marker.specs.declared.line.Fragment.{Fragment}
 use Rattle.answer.specs.Answer.{place}
+use Rattle.answer.specs.declared.Place.{Place}
 use Rattle.answer.specs.declared.Refusal.{Refusal}
-use Rattle.answer.specs.declared.Refusal.TheVariants.{NestedRegion, FragmentMarker}
+use Rattle.answer.specs.declared.Refusal.TheVariants.{NestedRegion, FragmentMarker, UnclosedRegion}
 use Rattle.text.specs.Bytes.{part}
 use Rattle.text.specs.Pattern.{starts_with, bytes, find, contains, equals}
 use Rattle.text.specs.Space.{trim}
@@ -37,7 +38,7 @@ use Rattle.scan.proofs.ScanLaws.{sought_line, sought_end}
 use Rattle.index.specs.Index.{File, file_of}
 use Rattle.regions.specs.Regions as regions
 use Rattle.regions.specs.Regions.{refusal_of, problems_of, regions_from, scanned_by, scanned}
-use Rattle.survey.specs.Surveys.{survey_of, wrong_or, survey_from, fault_of, closes, survey_end}
+use Rattle.survey.specs.Surveys.{survey_of, wrong_or, survey_from, refusal_at, closes, survey_end}
 use Rattle.regions.specs.Hosts.{host_rest, start_cursor}
 use Rattle.survey.specs.declared.Surveyed.{Surveyed}
 use Rattle.survey.specs.declared.Surveyed.TheVariants.{NoRegion, Regions}
@@ -140,31 +141,49 @@ spans_over any f n [] AtSpanEnd es h = refl
 spans_over any f n (x ∷ xs) t es h = spans_over any f n xs t es h
 
 -- one line: a refusal, or what follows is surveyed
-line_wrong : (any : Bool) (f : ℕ) (st : State) (n o k : ℕ) (l : List ℕ) (kind : Kind) (es : List Event) → fault_of kind ≡ suc k
-    → survey_from any f (events_of st n o l kind ++ es) ≡ wrong_or (refusal_of (suc k) (place f n)) (survey_from any f es)
+fault_wrong : (p : Place) (k : ℕ) (x : Refusal) (r : Result Surveyed Refusal) → refusal_at p (Fault k) ≡ Some x → wrong_or (refusal_of k p) r ≡ Err x
+fault_wrong p k x r = go (eqb k 2) (eqb k 3) (eqb k 4)
+  where
+    go : (a b c : Bool) → cond a (Some (NestedRegion p)) (cond b (Some (FragmentMarker p)) None) ≡ Some x
+        → wrong_or (cond a (NestedRegion p ∷ []) (cond b (FragmentMarker p ∷ []) (cond c (UnclosedRegion p ∷ []) []))) r ≡ Err x
+    go true b c e = cc
+    go false true c e = cc
+    go false false c e = cc
+
+fault_over : (p : Place) (k : ℕ) (r : Result Surveyed Refusal) → k < 4 → refusal_at p (Fault k) ≡ None → wrong_or (refusal_of k p) r ≡ r
+fault_over p k r h e = rw (ne_eqb k 4 (λ z. omega arith)) (go (eqb k 2) (eqb k 3) e)
+  where
+    go : (a b : Bool) → cond a (Some (NestedRegion p)) (cond b (Some (FragmentMarker p)) None) ≡ None
+        → wrong_or (cond a (NestedRegion p ∷ []) (cond b (FragmentMarker p ∷ []) [])) r ≡ r
+    go true b e = cc
+    go false true e = cc
+    go false false e = refl
+
+line_wrong : (any : Bool) (f : ℕ) (st : State) (n o : ℕ) (l : List ℕ) (kind : Kind) (es : List Event) (x : Refusal) → refusal_at (place f n) kind ≡ Some x
+    → survey_from any f (events_of st n o l kind ++ es) ≡ Err x
 unfolding survey_from events_of
-line_wrong any f st n o k l Plain es e = absurd (omega arith)
-line_wrong any f st n o k l Fence es e = absurd (omega arith)
-line_wrong any f st n o k l (Fault j) es e = rw e
-line_wrong any f st n o k l Closes es e = absurd (omega arith)
-line_wrong any f st n o k l (Opens a d peer) es e = absurd (omega arith)
-line_wrong any f st n o k l (Spans i) es e = absurd (omega arith)
+line_wrong any f st n o l Plain es x e = cc
+line_wrong any f st n o l Fence es x e = cc
+line_wrong any f st n o l (Fault k) es x e = fault_wrong (place f n) k x (survey_from any f es) e
+line_wrong any f st n o l Closes es x e = cc
+line_wrong any f st n o l (Opens a d peer) es x e = cc
+line_wrong any f st n o l (Spans i) es x e = cc
 
 line_over : (any : Bool) (f : ℕ) (st : State) (n o : ℕ) (l : List ℕ) (kind : Kind) (es : List Event) → kind ≡ kind_at st o l
-    → (fault_of kind ≡ 2 → ⊥) → (fault_of kind ≡ 3 → ⊥) → survey_from any f (events_of st n o l kind ++ es) ≡ survey_from (any || closes kind) f es
+    → refusal_at (place f n) kind ≡ None → survey_from any f (events_of st n o l kind ++ es) ≡ survey_from (any || closes kind) f es
 unfolding events_of kind_at span_events read_line survey_from
-line_over any f st n o l Plain es e x y = rw (or-false any)
-line_over any f st n o l Fence es e x y = rw (or-false any)
-line_over any f st n o l (Fault k) es e x y =
+line_over any f st n o l Plain es e x = rw (or-false any)
+line_over any f st n o l Fence es e x = rw (or-false any)
+line_over any f st n o l (Fault k) es e x =
     let h : k < 4 = subst LowKind (sym e) (low_kind st.fence (is_some st.region) o l) in
-    passed_over any f n k es x y (λ z. omega arith) ∙ rw (or-false any)
-line_over any f st n o l Closes es e x y = rw (or-true any) (go st.region (kind-closes st.fence (is_some st.region) o l (sym e)).1)
+    fault_over (place f n) k (survey_from any f es) h x ∙ rw (or-false any)
+line_over any f st n o l Closes es e x = rw (or-true any) (go st.region (kind-closes st.fence (is_some st.region) o l (sym e)).1)
   where
     go : (r : Option Opener) → is_some r ≡ true → survey_from any f (closed_by n o r ++ es) ≡ survey_from true f es
     go None q = absurd (false≢true q)
     go (Some g) q = refl
-line_over any f st n o l (Opens a d peer) es e x y = rw (or-false any)
-line_over any f st n o l (Spans i) es e x y =
+line_over any f st n o l (Opens a d peer) es e x = rw (or-false any)
+line_over any f st n o l (Spans i) es e x =
     rw (or-false any)
     (spans_over any f n (read_line n (o + i) (drop i l)).spans (read_line n (o + i) (drop i l)).stop es
     (late_read (length (drop i l)) n (o + i) (drop i l)))
@@ -186,17 +205,14 @@ module _ (s : List ℕ) (a n k b e x f : ℕ) (any : Bool) (st : State) (w : Res
       → survey_from any f (events_of st k b l kind ++ scan_from (after st k b kind) (k + 1) (lines_from x (drop x s))) ≡ w
   turn {kind} h ek = rw ek (ap (survey_from any f) (sym (sought_line s a n k b e x st h)) ∙ i)
 
-  pub survey_on : {kind : Kind} {next : State} {more : Bool} → Sought s a n (Some (record { number = k; start = b; end = e; next = x })) → kind ≡ kind_at st b l → (fault_of kind ≡ 2 → ⊥) → (fault_of kind ≡ 3 → ⊥)
+  pub survey_on : {kind : Kind} {next : State} {more : Bool} → Sought s a n (Some (record { number = k; start = b; end = e; next = x })) → kind ≡ kind_at st b l → refusal_at (place f k) kind ≡ None
       → more ≡ closes kind → next ≡ after st k b kind
       → survey_from (any || more) f (scan_from next (k + 1) (lines_from x (drop x s))) ≡ w
-  survey_on {kind} h ek p q em en =
-      rw (em, en) (sym (line_over any f st k b l kind (scan_from (after st k b kind) (k + 1) (lines_from x (drop x s))) ek p q) ∙ turn h ek)
+  survey_on {kind} h ek p em en =
+      rw (em, en) (sym (line_over any f st k b l kind (scan_from (after st k b kind) (k + 1) (lines_from x (drop x s))) ek p) ∙ turn h ek)
 
-  pub survey_nested : {kind : Kind} → Sought s a n (Some (record { number = k; start = b; end = e; next = x })) → kind ≡ kind_at st b l → fault_of kind ≡ 2 → Err (NestedRegion (place f k)) ≡ w
-  survey_nested {kind} h ek q = sym (line_wrong any f st k b 1 l kind (scan_from (after st k b kind) (k + 1) (lines_from x (drop x s))) q) ∙ turn h ek
-
-  pub survey_marker : {kind : Kind} → Sought s a n (Some (record { number = k; start = b; end = e; next = x })) → kind ≡ kind_at st b l → fault_of kind ≡ 3 → Err (FragmentMarker (place f k)) ≡ w
-  survey_marker {kind} h ek q = sym (line_wrong any f st k b 2 l kind (scan_from (after st k b kind) (k + 1) (lines_from x (drop x s))) q) ∙ turn h ek
+  pub survey_wrong : {kind : Kind} {y : Refusal} → Sought s a n (Some (record { number = k; start = b; end = e; next = x })) → kind ≡ kind_at st b l → refusal_at (place f k) kind ≡ Some y → Err y ≡ w
+  survey_wrong {kind} {y} h ek q = sym (line_wrong any f st k b l kind (scan_from (after st k b kind) (k + 1) (lines_from x (drop x s))) y q) ∙ turn h ek
 
   pub survey_end_lem : Sought s a n None → survey_end any f st.region ≡ w
   survey_end_lem h =
@@ -225,6 +241,15 @@ by_lists any f (OfSpan x ∷ es) = by_lists any f es
 by_lists any f (OfRegion g ∷ es) = by_lists true f es ∙ by_region any (problems_of f es) g (regions_of es)
 by_lists any f (OfProblem n k ∷ es) =
     ap (wrong_or (refusal_of k (place f n))) (by_lists any f es) ∙ by_problem any (refusal_of k (place f n)) (problems_of f es) (regions_of es)
+
+-- a test for the closer's kind
+pub closes-not : (kind : Kind) → (kind ≡ Closes → ⊥) → closes kind ≡ false
+closes-not Plain h = refl
+closes-not Fence h = refl
+closes-not (Fault k) h = refl
+closes-not Closes h = absurd (h refl)
+closes-not (Opens a e peer) h = refl
+closes-not (Spans i) h = refl
 
 -- the survey of a file is what `scanned` says of it
 pub survey_scanned : (f : ℕ) (name s : List ℕ) → survey_from false f (scan s) ≡ survey_of (scanned (file_of f name s))

@@ -1,9 +1,10 @@
 -- What a survey gathers, event by event. Nothing here is document 01's: inner functions promise it, and the laws of `proofs/SurveyLaws.antt` tie it to
 -- `Regions.antt` of `regions`.
-use Rattle.std.specs.Prelude.{ℕ, Bool, true, false, cond, List, [], ◌∷◌, Option, Some, None, Result, Ok, Err}
+use Rattle.std.specs.Prelude.{ℕ, Bool, true, false, cond, List, [], ◌∷◌, eqb, Option, Some, None, Result, Ok, Err}
 use Rattle.answer.specs.Answer.{place}
+use Rattle.answer.specs.declared.Place.{Place}
 use Rattle.answer.specs.declared.Refusal.{Refusal}
-use Rattle.answer.specs.declared.Refusal.TheVariants.{UnclosedRegion}
+use Rattle.answer.specs.declared.Refusal.TheVariants.{NestedRegion, FragmentMarker, UnclosedRegion}
 use Rattle.marker.specs.declared.line.Kind.{Kind}
 use Rattle.marker.specs.declared.line.Kind.TheVariants.{Plain, Fence, Fault, Closes, Opens, Spans}
 use Rattle.scan.specs.declared.event.Event.{Event}
@@ -31,15 +32,16 @@ survey_from any f (OfSpan x ∷ es) = survey_from any f es
 survey_from any f (OfRegion g ∷ es) = survey_from true f es
 survey_from any f (OfProblem n k ∷ es) = wrong_or (refusal_of k (place f n)) (survey_from any f es)
 
--- the problem that a line of a kind is, or 0; and whether a line of a kind closes a region
-abbrev pub fault_of : Kind → ℕ
-fault_of Plain = 0
-fault_of Fence = 0
-fault_of (Fault k) = k
-fault_of Closes = 0
-fault_of (Opens a e peer) = 0
-fault_of (Spans i) = 0
+-- the refusal that a line of a kind is, at its place
+abbrev pub refusal_at : Place → Kind → Option Refusal
+refusal_at p Plain = None
+refusal_at p Fence = None
+refusal_at p (Fault k) = cond (eqb k 2) (Some (NestedRegion p)) (cond (eqb k 3) (Some (FragmentMarker p)) None)
+refusal_at p Closes = None
+refusal_at p (Opens a e peer) = None
+refusal_at p (Spans i) = None
 
+-- whether a line of a kind closes a region
 abbrev pub closes : Kind → Bool
 closes Plain = false
 closes Fence = false

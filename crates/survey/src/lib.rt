@@ -4,11 +4,11 @@
 ghost use Rattle.std.specs.Prelude.{◌≡◌, List, ℕ};
 ghost use Rattle.index.specs.Index.{file_of};
 ghost use Rattle.regions.specs.Regions.{scanned};
-ghost use Rattle.survey.specs.Surveys.{survey_of, fault_of, closes as closes_by, survey_end};
+ghost use Rattle.survey.specs.Surveys.{survey_of, refusal_at, survey_end};
 
 use answer::{Place, Refusal};
 use marker::line::Kind;
-use scan::seek::LineAt;
+use scan::region::Cursor;
 use scan::state::Opener;
 use scan::{seek, state};
 
@@ -18,38 +18,14 @@ pub enum Surveyed {
     Regions,
 }
 
-// The problem that a line of a kind is, or 0.
-fn fault_of(kind: Kind) -> usize
-    ensures { result ≡ fault_of kind }
+// The refusal that a line of a kind is, at its place.
+fn refusal_at(place: Place, kind: Kind) -> Option<Refusal>
+    ensures { result ≡ refusal_at place kind }
 {
     match kind {
-        Kind::Plain => 0,
-        Kind::Fence => 0,
-        Kind::Fault(k) => k,
-        Kind::Closes => 0,
-        Kind::Opens {
-            start: _,
-            end: _,
-            peer: _,
-        } => 0,
-        Kind::Spans(_) => 0,
-    }
-}
-
-fn closes(kind: Kind) -> bool
-    ensures { result ≡ closes_by kind }
-{
-    match kind {
-        Kind::Plain => false,
-        Kind::Fence => false,
-        Kind::Fault(_) => false,
-        Kind::Closes => true,
-        Kind::Opens {
-            start: _,
-            end: _,
-            peer: _,
-        } => false,
-        Kind::Spans(_) => false,
+        Kind::Fault(2) => Some(Refusal::NestedRegion(place)),
+        Kind::Fault(3) => Some(Refusal::FragmentMarker(place)),
+        _ => None,
     }
 }
 
@@ -58,17 +34,12 @@ fn at_end(region: Option<Opener>, any: bool, file: usize) -> Result<Surveyed, Re
     ensures { result ≡ survey_end any file region }
 {
     match region {
-        Some(g) => {
-            let marker = g.marker;
-            let line = marker.line;
-            Err(Refusal::UnclosedRegion(Place { file, line }))
-        }
-        None => {
-            if any {
-                return Ok(Surveyed::Regions);
-            }
-            Ok(Surveyed::NoRegion)
-        }
+        Some(opener) => Err(Refusal::UnclosedRegion(Place {
+            file,
+            line: opener.marker.line,
+        })),
+        None if any => Ok(Surveyed::Regions),
+        None => Ok(Surveyed::NoRegion),
     }
 }
 
@@ -77,37 +48,23 @@ pub fn survey(s: &[u8], file: usize) -> Result<Surveyed, Refusal>
     ensures { (name : List ℕ) → result ≡ survey_of (scanned (file_of file name s.now)) }
 {
     let mut any = false;
-    let mut st = state::begin();
-    let mut a = 0;
-    let mut n = 0;
-    loop {
-        let l = seek::next_line(s, a, n);
-        match l {
-            Some(
-                LineAt {
-                    number,
-                    start,
-                    end,
-                    next,
-                },
-            ) => {
-                let kind = state::kind_at(st, start, &s[start..end]);
-                let fault = fault_of(kind);
-                if fault == 2 {
-                    return Err(Refusal::NestedRegion(Place { file, line: number }));
-                }
-                if fault == 3 {
-                    return Err(Refusal::FragmentMarker(Place { file, line: number }));
-                }
-                any = any | closes(kind);
-                st = state::after(st, number, start, kind);
-                a = next;
-                n = number;
-            }
-            None => {
-                let region = st.region;
-                return at_end(region, any, file);
-            }
+    let mut state = state::begin();
+    let mut cursor = Cursor { at: 0, line: 0 };
+    while let Some(line) = seek::next_line(s, cursor.at, cursor.line) {
+        let place = Place {
+            file,
+            line: line.number,
+        };
+        let kind = state::kind_at(state, line.start, &s[line.start..line.end]);
+        if let Some(refusal) = refusal_at(place, kind) {
+            return Err(refusal);
         }
+        any |= matches!(kind, Kind::Closes);
+        state = state::after(state, line.number, line.start, kind);
+        cursor = Cursor {
+            at: line.next,
+            line: line.number,
+        };
     }
+    at_end(state.region, any, file)
 }

@@ -8,9 +8,9 @@ use Rattle.scan.specs.Scan.{scan, scan_from}
 use Rattle.survey.specs.Surveys.{survey_from}
 use Rattle.survey.proofs.survey.Given as goal
 
-abbrev pub invariant-loop-number : goal.invariant-loop-number
-invariant-loop-number l =
-    (l.a ≤ length l.s) × ((l.n ≤ l.a) × (survey_from l.any l.file (scan_from l.st (l.n + 1) (lines_from l.a (drop l.a l.s))) ≡ survey_from false l.file (scan l.s)))
+abbrev pub invariant-loop-line : goal.invariant-loop-line
+invariant-loop-line l =
+    (l.cursor.at ≤ length l.s) × ((l.cursor.line ≤ l.cursor.at) × (survey_from l.any l.file (scan_from l.state (l.cursor.line + 1) (lines_from l.cursor.at (drop l.cursor.at l.s))) ≡ survey_from false l.file (scan l.s)))
 
-abbrev pub decreases-loop-number : goal.decreases-loop-number
-decreases-loop-number l = length l.s - l.a
+abbrev pub decreases-loop-line : goal.decreases-loop-line
+decreases-loop-line l = length l.s - l.cursor.at
