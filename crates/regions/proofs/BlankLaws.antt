@@ -75,11 +75,6 @@ module _ (gs : List Region) where
       let e : n + suc k ≡ (n + 1) + k = omega arith in
       rw (h n (omega arith) (omega arith), e) (ap (λ (r : List (List ℕ)). [] ∷ r) (blanked-away k (n + 1) ls (omega arith) (λ i p q. h i (omega arith) (omega arith))))
 
-  -- the k lines before the first opener, which comes after line m
-  module _ (m k n : ℕ) (ls : List (List ℕ)) (h : Sorted m gs) (j : n + k ≤ suc m) where
-    pub blanked-before : blanked_from n gs ls ≡ take k ls ++ blanked_from (n + k) gs (drop k ls)
-    blanked-before = blanked-stay k n ls (λ i p q. within_none i m gs h (omega arith))
-
 -- no region is left
 pub blanked-end : (n : ℕ) (ls : List (List ℕ)) → blanked_from n [] ls ≡ ls
 unfolding blanked_from is_within

@@ -234,3 +234,5 @@ own-next {s} {c} {d} {w} {v} {g} a b =
 
 pub own-end : {s : List ℕ} {c : Cursor} (w : Own) → LineFrom s c → regions_from s c ≡ [] → own_after w (pieces (part c.at (length s) s)) ≡ own_after w (blanked_at s c)
 own-end {s} {c} w a e = rw (rest s c.at, e, blanked-end (c.line + 1) (drop c.line (pieces s))) (own-rest w a)
+
+pub ruleset cursors = (next-placed, own-end)

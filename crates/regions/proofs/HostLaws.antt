@@ -284,3 +284,5 @@ module _ {s : List ℕ} {c : HostCursor} (a : HostAt s c) {g : Region} {d : Curs
           append = rw i (append-through a p.opens p.later);
           rest = λ j name. rw (eo, eh) (found-rest j name);
         }
+
+pub ruleset hosts = (last-host)

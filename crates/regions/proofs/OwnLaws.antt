@@ -14,6 +14,7 @@ use Rattle.heading.specs.declared.walk.LineKind.TheVariants.{Quoted, Heading, Ot
 use Rattle.heading.specs.declared.walk.WalkState.{WalkState}
 use Rattle.heading.proofs.LevelLaws.{level-step}
 use Rattle.heading.proofs.StillLaws.{still-shallower, gather_blanks, states_append, blanks-state}
+use Rattle.text.proofs.LineLaws.{before-end}
 use Rattle.regions.specs.Regions.{newer, last_level}
 use Rattle.regions.specs.Own.{own_step, own_after}
 use Rattle.regions.specs.declared.own.Own.{Own}
@@ -89,3 +90,5 @@ last_nothing b (Heading n a e ∷ ks) h =
     let q : Some n ≡ None = (last_nothing (Some n) ks h).0 in
     let z : ◌≡◌ {A = ℕ} 0 1 = cc in
     absurd (omega arith)
+
+pub ruleset turns = (own_turn, own-none, before-end)

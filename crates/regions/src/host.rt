@@ -62,16 +62,9 @@ fn target(peer: bool, above: Option<usize>, top: Option<usize>) -> usize
     ensures { (result ≡ target_level peer above top) × ((1 ≤ result) × (result ≤ 7)) }
 {
     match above {
-        Some(n) => {
-            if peer {
-                return n;
-            }
-            n + 1
-        }
-        None => match top {
-            Some(n) => n,
-            None => 1,
-        },
+        Some(level) if peer => level,
+        Some(level) => level + 1,
+        None => top.unwrap_or(1),
     }
 }
 
@@ -79,10 +72,7 @@ fn target(peer: bool, above: Option<usize>, top: Option<usize>) -> usize
 fn is_headless(peer: bool, above: Option<usize>) -> bool
     ensures { result ≡ is_headless peer above }
 {
-    match above {
-        Some(_) => false,
-        None => peer,
-    }
+    peer && above.is_none()
 }
 
 // The shallowest own level of the host, where a region has nothing above it: found at the first region, and kept.
@@ -91,76 +81,64 @@ fn top_of(s: &[u8], c: HostCursor, d: Cursor, w: Own) -> Option<usize>
     ensures { IsTop s.now w.above result }
 {
     if c.from != 0 {
-        let top = c.top;
-        return top;
+        return c.top;
     }
-    let above = w.above;
-    match above {
+    match w.above {
         Some(_) => None,
         None => own::rest_top(s, d, w),
     }
 }
 
+#[tactic(auto, unfolding(crate::specs::Own::opens_at))]
 fn opens_at(s: &[u8], g: Region, above: Option<usize>, top: Option<usize>) -> Opening
     requires { (g.opener.at ≤ length s.now) × (IsLevel above × IsLevel top) }
     ensures { (result ≡ opens_at s.now g above top) × (((1 ≤ result.target) × (result.target ≤ 7)) × (result.end ≤ length s.now)) }
 {
-    let opener = g.opener;
-    let path = g.path;
     Opening {
-        line: opener.line,
-        end: bytes::find_byte(s, opener.at, b'\n'),
-        path,
+        line: g.opener.line,
+        end: bytes::find_byte(s, g.opener.at, b'\n'),
+        path: g.path,
         target: target(g.peer, above, top),
         headless: is_headless(g.peer, above),
     }
 }
 
 // The cursor behind a region, with the walk at its opener.
+#[tactic(auto, unfolding(crate::specs::Own::cursor_at))]
 fn behind(g: Region, d: Cursor, w: Own, top: Option<usize>) -> HostCursor
     requires { (1 ≤ g.closer.at) × (1 ≤ g.closer.line) }
     ensures { result ≡ cursor_at g d w top }
 {
-    let closer = g.closer;
-    let state = w.state;
-    let above = w.above;
     HostCursor {
         at: d.at,
         line: d.line,
-        from: closer.at - 1,
-        before: closer.line - 1,
-        state,
-        above,
+        from: g.closer.at - 1,
+        before: g.closer.line - 1,
+        state: w.state,
+        above: w.above,
         top,
     }
 }
 
 // The next region of a host from a cursor on, and the cursor behind it.
+#[tactic(auto, using(crate::proofs::HostLaws::hosts))]
 pub fn next_host(s: &[u8], c: HostCursor) -> Option<(Opening, HostCursor)>
     requires { HostAt s.now c }
     ensures { FoundHost s.now c result }
 {
-    let state = c.state;
-    let above = c.above;
-    let w = Own {
-        state,
-        above,
+    let cursor = Cursor {
+        at: c.at,
+        line: c.line,
+    };
+    let walked = Own {
+        state: c.state,
+        above: c.above,
         top: None,
     };
-    let r = own::next_own(
-        s,
-        Cursor {
-            at: c.at,
-            line: c.line,
-        },
-        w,
-    );
-    match r {
-        Some((g, d, x)) => {
-            let top = top_of(s, c, d, x);
-            let above = x.above;
-            Some((opens_at(s, g, above, top), behind(g, d, x, top)))
-        }
-        None => None,
-    }
+    let (region, next, walked) = own::next_own(s, cursor, walked)?;
+    let top = top_of(s, c, next, walked);
+    Some((
+        opens_at(s, region, walked.above, top),
+        behind(region, next, walked, top),
+    ))
 }

@@ -24,90 +24,67 @@ fn newer(above: Option<usize>, kind: LineKind) -> Option<usize>
     ensures { result ≡ newer_of above kind }
 {
     match kind {
-        LineKind::Quoted => above,
-        LineKind::Heading {
-            level,
-            start: _,
-            end: _,
-        } => Some(level),
-        LineKind::Other => above,
+        LineKind::Heading { level, .. } => Some(level),
+        LineKind::Quoted | LineKind::Other => above,
     }
 }
 
+#[tactic(auto, unfolding(crate::specs::Own::own_step))]
 fn own_step(w: Own, line: &[u8]) -> Own
     ensures { result ≡ own_step w line.now }
 {
-    let from = w.state;
-    let above = w.above;
-    let top = w.top;
-    let x = walk::step(from, line);
-    let kind = x.kind;
-    let state = x.state;
+    let step = walk::step(w.state, line);
     Own {
-        state,
-        above: newer(above, kind),
-        top: level::shallower(top, kind),
+        state: step.state,
+        above: newer(w.above, step.kind),
+        top: level::shallower(w.top, step.kind),
     }
 }
 
 // The walk over the lines of s.
+#[tactic(auto, using(crate::proofs::OwnLaws::turns))]
 fn own_after(s: &[u8], w: Own) -> Own
     ensures { result ≡ own_after w (pieces s.now) }
 {
     let mut own = w;
     let mut a = 0;
     loop {
-        let p = lines::piece(s, a);
-        let e = p.end;
-        own = own_step(own, &s[a..e]);
-        if p.last {
+        let piece = lines::piece(s, a);
+        own = own_step(own, &s[a..piece.end]);
+        if piece.last {
             return own;
         }
-        a = e + 1;
+        a = piece.end + 1;
     }
 }
 
 // The next region from a cursor on, with the walk over the lines before it.
+#[tactic(auto, using(crate::proofs::CursorLaws::cursors))]
 pub fn next_own(s: &[u8], c: Cursor, w: Own) -> Option<(Region, Cursor, Own)>
     requires { LineFrom s.now c }
     ensures { FoundOwn s.now c w result }
 {
-    let r = region::next_region(s, c);
-    match r {
-        Some((g, _)) => {
-            let opener = g.opener;
-            let closer = g.closer;
-            let a = c.at;
-            let b = opener.at;
-            let e = closer.at;
-            let own = own_after(&s[a..b], w);
-            let l = lines::line(s, e, e);
-            let line = closer.line;
-            Some((g, Cursor { at: l.next, line }, own))
-        }
-        None => None,
-    }
+    let (region, _) = region::next_region(s, c)?;
+    let own = own_after(&s[c.at..region.opener.at], w);
+    let closer = lines::line(s, region.closer.at, region.closer.at);
+    let behind = Cursor {
+        at: closer.next,
+        line: region.closer.line,
+    };
+    Some((region, behind, own))
 }
 
 // The shallowest level of the own lines from a cursor on, with those before it walked.
+#[tactic(auto, using(crate::proofs::CursorLaws::cursors))]
 pub fn rest_top(s: &[u8], from: Cursor, w: Own) -> Option<usize>
     requires { LineFrom s.now from }
     ensures { result ≡ (own_after w (blanked_at s.now from)).top }
 {
-    let mut c = from;
+    let mut cursor = from;
     let mut own = w;
-    loop {
-        let r = next_own(s, c, own);
-        match r {
-            Some((_, d, x)) => {
-                c = d;
-                own = x;
-            }
-            None => {
-                let a = c.at;
-                let all = own_after(&s[a..], own);
-                return all.top;
-            }
-        }
+    while let Some((_, behind, walked)) = next_own(s, cursor, own) {
+        cursor = behind;
+        own = walked;
     }
+    own_after(&s[cursor.at..], own).top
 }

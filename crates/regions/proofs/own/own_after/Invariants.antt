@@ -6,8 +6,8 @@ use Rattle.text.specs.Lines.{pieces}
 use Rattle.regions.specs.Own.{own_after}
 use Rattle.regions.proofs.own.own_after.Given as goal
 
-abbrev pub invariant-loop-own : goal.invariant-loop-own
-invariant-loop-own l = (l.a ≤ length l.s) × (own_after l.own (pieces (drop l.a l.s)) ≡ own_after l.initial.own (pieces l.s))
+abbrev pub invariant-loop-piece : goal.invariant-loop-piece
+invariant-loop-piece l = (l.a ≤ length l.s) × (own_after l.own (pieces (drop l.a l.s)) ≡ own_after l.initial.own (pieces l.s))
 
-abbrev pub decreases-loop-own : goal.decreases-loop-own
-decreases-loop-own l = length l.s - l.a
+abbrev pub decreases-loop-piece : goal.decreases-loop-piece
+decreases-loop-piece l = length l.s - l.a

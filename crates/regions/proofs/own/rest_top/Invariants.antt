@@ -6,8 +6,8 @@ use Rattle.regions.specs.Hosts.{LineFrom, blanked_at}
 use Rattle.regions.specs.Own.{own_after}
 use Rattle.regions.proofs.own.rest_top.Given as goal
 
-abbrev pub invariant-loop-d : goal.invariant-loop-d
-invariant-loop-d l = LineFrom l.s l.c × (own_after l.own (blanked_at l.s l.c) ≡ own_after l.initial.own (blanked_at l.s l.initial.c))
+abbrev pub invariant-loop-behind : goal.invariant-loop-behind
+invariant-loop-behind l = LineFrom l.s l.cursor × (own_after l.own (blanked_at l.s l.cursor) ≡ own_after l.initial.own (blanked_at l.s l.initial.cursor))
 
-abbrev pub decreases-loop-d : goal.decreases-loop-d
-decreases-loop-d l = length l.s - l.c.at
+abbrev pub decreases-loop-behind : goal.decreases-loop-behind
+decreases-loop-behind l = length l.s - l.cursor.at
