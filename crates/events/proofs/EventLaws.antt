@@ -17,11 +17,11 @@ use Rattle.scan.proofs.ScanLaws.{sought_line, sought_end}
 use Rattle.event_log.specs.Sink.{Sink, put, put_all}
 use Rattle.event_log.proofs.SinkLaws.{all_append}
 
--- one turn of the writing scan: x is what the whole scan writes
-module _ (s : List ℕ) (a n k b e x : ℕ) (st : State) (t u w : Sink) (i : put_all (scan_from st (n + 1) (lines_from a (drop a s))) t ≡ w) where
-  pub turned : {kind : Kind} {next : State} → Sought s a n (Some (record { number = k; start = b; end = e; next = x })) → kind ≡ kind_at st b (part b e s) → u ≡ put_all (events_of st k b (part b e s) kind) t → next ≡ after st k b kind
+-- one turn of the writing scan: w is what the whole scan writes
+module _ (s : List ℕ) (a n : ℕ) (st : State) (t u w : Sink) (i : put_all (scan_from st (n + 1) (lines_from a (drop a s))) t ≡ w) where
+  pub turned : {k b e x : ℕ} {kind : Kind} {next : State} → Sought s a n (Some (record { number = k; start = b; end = e; next = x })) → kind ≡ kind_at st b (part b e s) → u ≡ put_all (events_of st k b (part b e s) kind) t → next ≡ after st k b kind
       → put_all (scan_from next (k + 1) (lines_from x (drop x s))) u ≡ w
-  turned {kind} {next} h ek eu en =
+  turned {k} {b} {e} {x} {kind} {next} h ek eu en =
       let l : List ℕ = part b e s in
       rw (en, eu, ek)
       (sym (all_append (events_of st k b l (kind_at st b l)) (scan_from (after st k b (kind_at st b l)) (k + 1) (lines_from x (drop x s))) t)

@@ -10,7 +10,8 @@ use Prim.Native.Nat.{◌+◌}
 use Rattle.events.proofs.put_last.Goals as goal
 
 pub returns-then-state : goal.returns-then-state
-returns-then-state c = let a = c.args in
+returns-then-state c =
+    let a = c.args in
     let k : a.n + c.line_count.result ≡ a.n + length (lines_from a.a (drop a.a a.s.now)) = omega (arith, rw rest at c.line_count.ensures.0, lines-length (drop a.a a.s.now) 0 a.a) in
     last_open _ _ _ _ c.put_unclosed-to.ensures c.if-state.true (rw k at c.put.ensures)
 

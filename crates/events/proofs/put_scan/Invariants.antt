@@ -7,13 +7,11 @@ use mathlib.Core.Path.{◌≡◌}
 use Prim.Native.Nat.{◌+◌, ◌-◌, ◌≤◌}
 use Rattle.events.proofs.put_scan.Given as goal
 
-abbrev pub invariant-loop-number : goal.invariant-loop-number
-invariant-loop-number l =
+abbrev pub invariant-loop-line : goal.invariant-loop-line
+invariant-loop-line l =
     (l.a ≤ length l.s)
     × ((l.n ≤ l.a)
-    × ((length l.log ≡ length l.initial.log)
-    × ((length l.out ≡ length l.initial.out)
-    × (put_all (scan_from l.st (l.n + 1) (lines_from l.a (drop l.a l.s))) (sink l.to l.log l.out) ≡ put_all (scan l.s) (sink l.initial.to l.initial.log l.initial.out)))))
+    × (put_all (scan_from l.state (l.n + 1) (lines_from l.a (drop l.a l.s))) (sink l.to l.log l.out) ≡ put_all (scan l.s) (sink l.initial.to l.initial.log l.initial.out)))
 
-abbrev pub decreases-loop-number : goal.decreases-loop-number
-decreases-loop-number l = length l.s - l.a
+abbrev pub decreases-loop-line : goal.decreases-loop-line
+decreases-loop-line l = length l.s - l.a
