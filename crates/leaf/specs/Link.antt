@@ -3,6 +3,7 @@ use Rattle.std.specs.Prelude.{ℕ, min, ◌≤◌, cond, List, [], ◌∷◌, �
 use Rattle.std.proofs.lemmas.List.Edits.{sets}
 use Rattle.text.specs.declared.part.Part.{Part}
 use Rattle.answer.specs.Answer.{numbers}
+use Rattle.answer.specs.declared.Refusal.{Refusal}
 use Rattle.answer.specs.declared.Answer.TheVariants.{Accepted}
 use Rattle.link.specs.Links.{FoundLink}
 use Rattle.link.specs.Target.{anchor_self}

@@ -2,7 +2,7 @@
 ghost use Rattle.std.specs.Prelude.{◌≡◌, min};
 ghost use Rattle.leaf.specs.Link.{link_numbers, target_numbers};
 
-use link::links::Part;
+use text::part::Part;
 
 pub fn of_link(found: Option<Part>) -> [u64; 6]
     ensures { result ≡ link_numbers found }
