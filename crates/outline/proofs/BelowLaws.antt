@@ -1,8 +1,8 @@
 -- Laws of the shift of a member's headings to level 2: the first line that goes past, line by line, and the answers. Assumes nothing.
-use Rattle.std.specs.Prelude.{Option, Some, None, Ok, Err}
+use Rattle.std.specs.Prelude.{Option, Some, None, is_some, Ok, Err}
 use Prim.Native.Nat.{ℕ, ◌+◌, ◌≤◌}
 use native.Mathlib.Omega.{arith}
-use mathlib.Core.Path.{◌≡◌, sym, ap, ◌∙◌, subst}
+use mathlib.Core.Path.{◌≡◌, refl, sym, ap, ◌∙◌, subst}
 use mathlib.Core.Bool.{Bool, true, false, false≢true}
 use mathlib.Core.List.{List, [], ◌∷◌}
 use lib.IntN.{ℤ, pos, ◌+ℤ◌}
@@ -26,7 +26,7 @@ use Rattle.outline.proofs.OutlineLaws.{kept-first}
 -- a line that goes past is left, with a title before or not
 pub record Below (z : ℤ) (s : List ℕ) (t : Bool) (c : LineCursor) : Type 0 where
   pub cursor : CursorIn c s
-  pub ahead : Ahead z (moved_kinds s) (kinds_of (moved_from t (left_of c s))) c.line
+  pub ahead : Ahead z (moved_kinds s) (kinds_of (moved_from t (left_of c s))) (c.line + 1)
 
 pub below-first : (z : ℤ) (s : List ℕ) (c : LineCursor) → c ≡ at_first → any_past z (moved_kinds s) ≡ true → Below z s false c
 below-first z s c e p =
@@ -63,12 +63,20 @@ module _ (s : List ℕ) {top : Option ℕ} {d : ℕ} (a : AreLevels (moved_kinds
   shift_is = r ∙ ap (shift_of 2) a.shallow
 
   -- a heading goes past where the deepest does
-  pub below-past : {b : Bool} (n : ℕ) → top ≡ Some n → b ≡ is_past (moved_to (pos d +ℤ x)) → any_past x (moved_kinds s) ≡ b
-  below-past n q p = rw (a.deep, r ∙ ap (shift_of 2) q) (deepest-past n 1 (shift_of 2 (Some n)) (shift_level 2 n) (moved_kinds s) (sym a.shallow ∙ q)) ∙ sym p
+  pub below-past : {b : Bool} → is_some top ≡ true → b ≡ is_past (moved_to (pos d +ℤ x)) → any_past x (moved_kinds s) ≡ b
+  below-past w p = go top w refl r ∙ sym p
+    where
+      go : (o : Option ℕ) → is_some o ≡ true → top ≡ o → x ≡ shift_of 2 o → any_past x (moved_kinds s) ≡ is_past (moved_to (pos d +ℤ x))
+      go None w q e = absurd (false≢true w)
+      go (Some n) w q e = rw (a.deep, e) (deepest-past n 1 (shift_of 2 (Some n)) (shift_level 2 n) (moved_kinds s) (sym a.shallow ∙ q))
 
   -- with no heading none does
-  pub below_none : top ≡ None → any_past x (moved_kinds s) ≡ false
-  below_none q = none-past x (moved_kinds s) (sym a.shallow ∙ q)
+  pub below_none : is_some top ≡ false → any_past x (moved_kinds s) ≡ false
+  below_none w = go top w refl
+    where
+      go : (o : Option ℕ) → is_some o ≡ false → top ≡ o → any_past x (moved_kinds s) ≡ false
+      go None w q = none-past x (moved_kinds s) (sym a.shallow ∙ q)
+      go (Some n) w q = absurd (false≢true (sym w))
 
   -- the answers
   pub below_by : mag x ≤ 7 → any_past x (moved_kinds s) ≡ false → ShiftBelow s (Ok x)

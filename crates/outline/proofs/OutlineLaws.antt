@@ -1,6 +1,7 @@
 -- Laws for the loop that prepares a member: the lines kept so far, the title and the levels among them, and where those that are not blank end.
 -- Assumes nothing.
 use Rattle.std.specs.Prelude.{None, Some}
+use Rattle.std.specs.Bool.{then_some}
 use Prim.Native.Nat.{ℕ, zero, suc, ◌+◌, ◌^◌, ◌≤◌, ◌<◌}
 use native.Mathlib.Omega.{arith}
 use mathlib.Core.Path.{◌≡◌, refl, sym, ap, ◌∙◌, subst}
@@ -25,7 +26,7 @@ use Rattle.text.proofs.BytesLaws.{part_full}
 use Rattle.text.proofs.PartLaws.{part-part}
 use Rattle.member.specs.Member.{without_contents, prepared_lines, title_of, movable}
 use Rattle.member.specs.Lines.{kept_lines, left_of, at_first, CursorIn, IsLine}
-use Rattle.outline.specs.Outline.{IsOutline, moved_kinds}
+use Rattle.outline.specs.Outline.{FoundOutline, IsOutline, moved_kinds}
 use Rattle.member.specs.Passed.{PassedLines, PassedTo}
 use Rattle.outline.specs.Seen.{titled_by, moved_kind, title_at, Placed, SeenWith, ended_at}
 use Rattle.member.specs.declared.lines.LineCursor.{LineCursor}
@@ -206,11 +207,11 @@ module _ {s : List ℕ} {c : LineCursor} {z : Seen} (o : Outlines s c z) (e : le
       ∙ ap (λ (ts : List Told). o.told ++ ts) e
       ∙ append-nil o.told
 
-  pub outlines_untitled : z.titled ≡ false → title_of (prepared_lines s) ≡ None
+  outlines_untitled : z.titled ≡ false → title_of (prepared_lines s) ≡ None
   unfolding title_of
   outlines_untitled q = let h = rw q at o.seen in prepared_title s ∙ h ∙ ap title_of e
 
-  pub outlines_titled : z.titled ≡ true → IsOutline s z.outline
+  outlines_titled : z.titled ≡ true → IsOutline s z.outline
   unfolding shallowest_of deepest_of movable
   outlines_titled q =
       let h = rw q at o.seen in
@@ -228,6 +229,13 @@ module _ {s : List ℕ} {c : LineCursor} {z : Seen} (o : Outlines s c z) (e : le
           small = o.small;
         };
       }
+
+pub outlines_found : {s : List ℕ} {c : LineCursor} {z : Seen} → Outlines s c z → left_of c s ≡ [] → FoundOutline s (then_some z.titled z.outline)
+outlines_found {s} {c} {z} o e = go z.titled refl
+  where
+    go : (t : Bool) → z.titled ≡ t → FoundOutline s (then_some t z.outline)
+    go true q = outlines_titled o e q
+    go false q = outlines_untitled o e q
 
 -- a heading's text stands where a machine's number can say
 pub line-placed : {s : List ℕ} {c d : LineCursor} {a e : ℕ} (k : LineKind) → IsLine s c a e k d → length s < 2 ^ 64 → Placed k a

@@ -1,5 +1,5 @@
 -- What is known of a member once it is prepared. Nothing here is document 01's: functions promise it.
-use Rattle.std.specs.Prelude.{ℕ, ◌+◌, ◌≤◌, ◌≡◌, true, false, List, length, take, Option, Some, None, Result, Ok, Err}
+use Rattle.std.specs.Prelude.{ℕ, ℤ, ◌+◌, ◌≤◌, ◌≡◌, true, false, List, length, take, Option, Some, None, Result, Ok, Err}
 use Rattle.std.specs.Int.Signed.{mag}
 use Rattle.text.specs.Bytes.{part}
 use Rattle.heading.specs.Level.{any_past, first_past}

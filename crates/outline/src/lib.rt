@@ -11,7 +11,6 @@ ghost use Rattle.outline.specs.Outline.{FoundOutline, moved_kinds, ShiftBelow};
 
 use heading::walk::LineKind;
 use member::lines;
-use member::lines::KeptLine;
 use shift::level;
 use shift::level::Levels;
 use text::part::Part;
@@ -36,15 +35,7 @@ struct Seen {
 pub fn titled_by(titled: bool, kind: LineKind) -> bool
     ensures { result ≡ titled_by titled kind }
 {
-    match kind {
-        LineKind::Quoted => titled,
-        LineKind::Heading {
-            level,
-            start: _,
-            end: _,
-        } => titled | (level == 1),
-        LineKind::Other => titled,
-    }
+    titled || matches!(kind, LineKind::Heading { level: 1, .. })
 }
 
 // What a line is where the title is no heading to be moved.
@@ -52,21 +43,8 @@ pub fn moved_kind(titled: bool, kind: LineKind) -> LineKind
     ensures { result ≡ moved_kind titled kind }
 {
     match kind {
-        LineKind::Quoted => kind,
-        LineKind::Heading {
-            level,
-            start: _,
-            end: _,
-        } => {
-            if titled {
-                return kind;
-            }
-            if level == 1 {
-                return LineKind::Other;
-            }
-            kind
-        }
-        LineKind::Other => kind,
+        LineKind::Heading { level: 1, .. } if !titled => LineKind::Other,
+        _ => kind,
     }
 }
 
@@ -76,20 +54,15 @@ fn title_at(titled: bool, at: usize, kind: LineKind, old: Part) -> Part
     ensures { result ≡ title_at titled at kind old }
 {
     match kind {
-        LineKind::Quoted => old,
-        LineKind::Heading { level, start, end } => {
-            if titled {
-                return old;
-            }
-            if level == 1 {
-                return Part {
-                    start: at + start,
-                    end: at + end,
-                };
-            }
-            old
-        }
-        LineKind::Other => old,
+        LineKind::Heading {
+            level: 1,
+            start,
+            end,
+        } if !titled => Part {
+            start: at + start,
+            end: at + end,
+        },
+        _ => old,
     }
 }
 
@@ -97,10 +70,7 @@ fn title_at(titled: bool, at: usize, kind: LineKind, old: Part) -> Part
 fn end_with(old: usize, line: &[u8], end: usize) -> usize
     ensures { result ≡ cond (is_blank line.now) old end }
 {
-    if space::is_blank(line) {
-        return old;
-    }
-    end
+    if space::is_blank(line) { old } else { end }
 }
 
 // The outline with one line more.
@@ -108,13 +78,13 @@ fn with_line(seen: Seen, at: usize, end: usize, kind: LineKind) -> Seen
     requires { Placed kind at }
     ensures { SeenWith seen at end kind result }
 {
-    let titled = seen.titled;
-    let outline = seen.outline;
-    let title = title_at(titled, at, kind, outline.title);
-    let levels = level::with_line(outline.levels, moved_kind(titled, kind));
     Seen {
-        titled: titled_by(titled, kind),
-        outline: Outline { end, title, levels },
+        titled: titled_by(seen.titled, kind),
+        outline: Outline {
+            end,
+            title: title_at(seen.titled, at, kind, seen.outline.title),
+            levels: level::with_line(seen.outline.levels, moved_kind(seen.titled, kind)),
+        },
     }
 }
 
@@ -122,12 +92,12 @@ fn with_line(seen: Seen, at: usize, end: usize, kind: LineKind) -> Seen
 fn ended_at(seen: Seen, end: usize) -> Seen
     ensures { result ≡ ended_at seen end }
 {
-    let outline = seen.outline;
-    let title = outline.title;
-    let levels = outline.levels;
     Seen {
-        titled: seen.titled,
-        outline: Outline { end, title, levels },
+        outline: Outline {
+            end,
+            ..seen.outline
+        },
+        ..seen
     }
 }
 
@@ -146,28 +116,16 @@ pub fn prepare(s: &[u8]) -> Option<Outline>
             },
         },
     };
-    let mut c = lines::first();
+    let mut cursor = lines::first();
     loop {
-        let passed = lines::pass(s, c, seen.outline.end, false);
-        let end = passed.end;
-        seen = ended_at(seen, end);
-        let Some(
-            KeptLine {
-                start: a,
-                end: e,
-                kind,
-                behind,
-            },
-        ) = lines::next_line(s, passed.behind)
-        else {
-            if seen.titled {
-                let outline = seen.outline;
-                return Some(outline);
-            }
-            return None;
+        let passed = lines::pass(s, cursor, seen.outline.end, false);
+        seen = ended_at(seen, passed.end);
+        let Some(line) = lines::next_line(s, passed.behind) else {
+            return seen.titled.then_some(seen.outline);
         };
-        seen = with_line(seen, a, end_with(end, &s[a..e], e), kind);
-        c = behind;
+        let end = end_with(passed.end, &s[line.start..line.end], line.end);
+        seen = with_line(seen, line.start, end, line.kind);
+        cursor = line.behind;
     }
 }
 
@@ -177,26 +135,15 @@ fn past_line(s: &[u8], shift: i32) -> usize
     ensures { result ≡ 1 + first_past shift (moved_kinds s.now) }
 {
     let mut titled = false;
-    let mut c = lines::first();
-    loop {
-        let Some(
-            KeptLine {
-                start: _,
-                end: _,
-                kind,
-                behind,
-            },
-        ) = lines::next_line(s, c)
-        else {
-            return c.line;
-        };
-        let moved = moved_kind(titled, kind);
-        if level::goes_past(moved, shift) {
-            return behind.line;
+    let mut cursor = lines::first();
+    while let Some(line) = lines::next_line(s, cursor) {
+        if level::goes_past(moved_kind(titled, line.kind), shift) {
+            return line.behind.line;
         }
-        titled = titled_by(titled, kind);
-        c = behind;
+        titled = titled_by(titled, line.kind);
+        cursor = line.behind;
     }
+    cursor.line
 }
 
 // The shift that takes the shallowest of a prepared member's headings to level 2, the title excepted.
@@ -204,15 +151,9 @@ pub fn shift_below(s: &[u8], levels: Levels) -> Result<i32, usize>
     requires { AreLevels (moved_kinds s.now) levels.top levels.deepest }
     ensures { ShiftBelow s.now result }
 {
-    let top = levels.top;
-    let shift = heading::level::shift_to(2, top);
-    match top {
-        Some(_) => {
-            if level::is_past(levels.deepest, shift) {
-                return Err(past_line(s, shift));
-            }
-            Ok(shift)
-        }
-        None => Ok(shift),
+    let shift = heading::level::shift_to(2, levels.top);
+    if levels.top.is_some() && level::is_past(levels.deepest, shift) {
+        return Err(past_line(s, shift));
     }
+    Ok(shift)
 }

@@ -4,8 +4,8 @@ use lib.ListN.{length}
 use Rattle.outline.proofs.BelowLaws.{Below}
 use Rattle.outline.proofs.past_line.Given as goal
 
-abbrev pub invariant-loop-kind : goal.invariant-loop-kind
-invariant-loop-kind l = Below l.shift l.s l.titled l.c
+abbrev pub invariant-loop-line : goal.invariant-loop-line
+invariant-loop-line l = Below l.shift l.s l.titled l.cursor
 
-abbrev pub decreases-loop-kind : goal.decreases-loop-kind
-decreases-loop-kind l = suc (length l.s) - l.c.at
+abbrev pub decreases-loop-line : goal.decreases-loop-line
+decreases-loop-line l = suc (length l.s) - l.cursor.at

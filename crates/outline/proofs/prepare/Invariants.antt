@@ -4,8 +4,8 @@ use lib.ListN.{length}
 use Rattle.outline.proofs.OutlineLaws.{Outlines}
 use Rattle.outline.proofs.prepare.Given as goal
 
-abbrev pub invariant-loop-a : goal.invariant-loop-a
-invariant-loop-a l = Outlines l.s l.c l.seen
+abbrev pub invariant-loop-line : goal.invariant-loop-line
+invariant-loop-line l = Outlines l.s l.cursor l.seen
 
-abbrev pub decreases-loop-a : goal.decreases-loop-a
-decreases-loop-a l = suc (length l.s) - l.c.at
+abbrev pub decreases-loop-line : goal.decreases-loop-line
+decreases-loop-line l = suc (length l.s) - l.cursor.at
