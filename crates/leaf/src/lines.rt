@@ -6,14 +6,5 @@ ghost use Rattle.leaf.specs.Leaf.{has_room};
 pub fn has_room(at: u64, level: u64, text: u64, out: u64) -> bool
     ensures { result ≡ has_room at level text out }
 {
-    if 6 < level {
-        return false;
-    }
-    if out < at {
-        return false;
-    }
-    if out - at < level + 1 {
-        return false;
-    }
-    text <= out - at - (level + 1)
+    level <= 6 && at <= out && level < out - at && text <= out - at - (level + 1)
 }

@@ -17,8 +17,8 @@ pub fn of_target(found: Option<usize>) -> [u64; 6]
     ensures { result ≡ target_numbers found }
 {
     match found {
-        None => [0, 0, 0, 0, 0, 0],
         Some(end) => [1, end as u64, 0, 0, 0, 0],
+        None => [0, 0, 0, 0, 0, 0],
     }
 }
 
@@ -26,8 +26,5 @@ pub fn of_target(found: Option<usize>) -> [u64; 6]
 pub fn at_most(n: u64, length: usize) -> usize
     ensures { result ≡ min n length }
 {
-    if n < length as u64 {
-        return n as usize;
-    }
-    length
+    length.min(n as usize)
 }

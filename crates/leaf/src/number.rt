@@ -5,18 +5,15 @@ ghost use Rattle.leaf.specs.Leaf.{fence_of, state_of, fence_number, step_numbers
 use fence::Fence;
 use heading::level;
 use heading::walk::{LineKind, WalkState};
-use text::bytes;
 
 fn fence(n: u64) -> Fence
     ensures { result ≡ fence_of n }
 {
-    if n == 1 {
-        return Fence::Ticks;
+    match n {
+        1 => Fence::Ticks,
+        2 => Fence::Tildes,
+        _ => Fence::Outside,
     }
-    if n == 2 {
-        return Fence::Tildes;
-    }
-    Fence::Outside
 }
 
 pub fn state(n: u64, comment: u64) -> WalkState
@@ -41,15 +38,19 @@ fn of_fence(fence: Fence) -> u64
 pub fn of_step(kind: LineKind, state: WalkState) -> [u64; 6]
     ensures { result ≡ step_numbers kind state }
 {
-    let fence = state.fence;
-    let f = of_fence(fence);
-    let c = bytes::bit(state.comment) as u64;
+    let fence = of_fence(state.fence);
+    let comment = u64::from(state.comment);
     match kind {
-        LineKind::Quoted => [2, 0, 0, 0, f, c],
-        LineKind::Heading { level, start, end } => {
-            [1, level as u64, start as u64, end as u64, f, c]
-        }
-        LineKind::Other => [0, 0, 0, 0, f, c],
+        LineKind::Quoted => [2, 0, 0, 0, fence, comment],
+        LineKind::Heading { level, start, end } => [
+            1,
+            level as u64,
+            start as u64,
+            end as u64,
+            fence,
+            comment,
+        ],
+        LineKind::Other => [0, 0, 0, 0, fence, comment],
     }
 }
 
@@ -63,19 +64,13 @@ pub fn one(n: u64) -> [u64; 6]
 pub fn of_top(found: Option<usize>) -> u64
     ensures { result ≡ top_number found }
 {
-    match found {
-        Some(n) => n as u64,
-        None => 0,
-    }
+    found.unwrap_or(0) as u64
 }
 
 fn top(n: u64) -> Option<usize>
     ensures { result ≡ top_of n }
 {
-    if n == 0 {
-        return None;
-    }
-    Some(n as usize)
+    (n != 0).then_some(n as usize)
 }
 
 fn of_moved(moved: Option<usize>) -> [u64; 6]
@@ -90,22 +85,9 @@ fn of_moved(moved: Option<usize>) -> [u64; 6]
 pub fn of_move(target: u64, shallowest: u64, level: u64) -> [u64; 6]
     ensures { result ≡ moved_of target shallowest level }
 {
-    if target < 1 {
-        return one(2);
-    }
-    if 7 < target {
-        return one(2);
-    }
-    if level < 1 {
-        return one(2);
-    }
-    if 7 < level {
-        return one(2);
-    }
-    if 6 < shallowest {
+    if !(1..=7).contains(&target) || !(1..=7).contains(&level) || shallowest > 6 {
         return one(2);
     }
     let shift = level::shift_to(target as usize, top(shallowest));
-    let moved = level::shifted(level as usize, shift);
-    of_moved(moved)
+    of_moved(level::shifted(level as usize, shift))
 }

@@ -10,10 +10,7 @@ use scan::region::Cursor;
 pub fn next_from(text: &[u8], at: u64, line: u64) -> Option<(Region, Cursor)>
     ensures { NextFrom text.now at line result }
 {
-    if (text.len() as u64) < at {
-        return None;
-    }
-    if at < line {
+    if (text.len() as u64) < at || at < line {
         return None;
     }
     region::next_region(
@@ -25,30 +22,24 @@ pub fn next_from(text: &[u8], at: u64, line: u64) -> Option<(Region, Cursor)>
     )
 }
 
-fn kind(g: Region) -> u64
-    ensures { result ≡ kind_number g }
+fn kind(region: Region) -> u64
+    ensures { result ≡ kind_number region }
 {
-    if g.peer {
-        return 2;
-    }
-    1
+    if region.peer { 2 } else { 1 }
 }
 
 pub fn of_region(found: Option<(Region, Cursor)>) -> [u64; 6]
     ensures { result ≡ region_numbers found }
 {
     match found {
-        Some((g, next)) => {
-            let path = g.path;
-            [
-                kind(g),
-                path.start as u64,
-                path.end as u64,
-                next.at as u64,
-                next.line as u64,
-                0,
-            ]
-        }
+        Some((region, next)) => [
+            kind(region),
+            region.path.start as u64,
+            region.path.end as u64,
+            next.at as u64,
+            next.line as u64,
+            0,
+        ],
         None => [0, 0, 0, 0, 0, 0],
     }
 }
@@ -57,18 +48,14 @@ pub fn of_markers(found: Option<(Region, Cursor)>) -> [u64; 6]
     ensures { result ≡ marker_numbers found }
 {
     match found {
-        Some((g, _)) => {
-            let opener = g.opener;
-            let closer = g.closer;
-            [
-                kind(g),
-                opener.line as u64,
-                opener.at as u64,
-                closer.line as u64,
-                closer.at as u64,
-                0,
-            ]
-        }
+        Some((region, _)) => [
+            kind(region),
+            region.opener.line as u64,
+            region.opener.at as u64,
+            region.closer.line as u64,
+            region.closer.at as u64,
+            0,
+        ],
         None => [0, 0, 0, 0, 0, 0],
     }
 }

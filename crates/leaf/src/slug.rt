@@ -17,18 +17,11 @@ pub fn put(text: &[u8], out: &mut [u8]) -> usize
     ensures { (result ≡ length (slug text.now)) × (out.new ≡ sets out.old 0 (slug text.now)) }
 {
     let mut n = 0;
-    let mut c = anchor::start(text);
-    loop {
-        let x = anchor::next(text, c);
-        match x {
-            Some((b, d)) => {
-                put_byte(out, n, b);
-                n += 1;
-                c = d;
-            }
-            None => {
-                return n;
-            }
-        }
+    let mut cursor = anchor::start(text);
+    while let Some((byte, next)) = anchor::next(text, cursor) {
+        put_byte(out, n, byte);
+        n += 1;
+        cursor = next;
     }
+    n
 }

@@ -6,13 +6,13 @@ use lib.Seq.{sets}
 use Rattle.anchor.specs.Anchor.{slug, anchor_from, CursorWithin}
 use Rattle.leaf.proofs.slug.put.Given as goal
 
-abbrev pub invariant-loop-b : goal.invariant-loop-b
-invariant-loop-b l =
-    CursorWithin l.c l.text
-    × ((l.n ≤ l.c.at)
+abbrev pub invariant-loop-byte : goal.invariant-loop-byte
+invariant-loop-byte l =
+    CursorWithin l.cursor l.text
+    × ((l.n ≤ l.cursor.at)
     × ((length l.out ≡ length l.initial.out)
-    × ((l.n + length (anchor_from l.c l.text) ≡ length (slug l.text))
-    × (sets l.out l.n (anchor_from l.c l.text) ≡ sets l.initial.out 0 (slug l.text)))))
+    × ((l.n + length (anchor_from l.cursor l.text) ≡ length (slug l.text))
+    × (sets l.out l.n (anchor_from l.cursor l.text) ≡ sets l.initial.out 0 (slug l.text)))))
 
-abbrev pub decreases-loop-b : goal.decreases-loop-b
-decreases-loop-b l = length l.text - l.c.at
+abbrev pub decreases-loop-byte : goal.decreases-loop-byte
+decreases-loop-byte l = length l.text - l.cursor.at
