@@ -1,5 +1,5 @@
 -- Laws of what comes of a text before its lines are put, and of the running text behind which they are. Assumes nothing.
-use Rattle.std.specs.Prelude.{Option, Some, None, Ok, Err}
+use Rattle.std.specs.Prelude.{ok_or, Option, Some, None, Ok, Err}
 use Prim.Native.Nat.{ℕ, ◌+◌, ◌-◌, ◌≤◌, ◌<◌}
 use native.Mathlib.Omega.{arith}
 use mathlib.Core.Path.{◌≡◌, sym, ap, ◌∙◌}
@@ -29,7 +29,7 @@ use Rattle.embedding.specs.Embed.{embed_told}
 use Rattle.put.specs.Put.{source_text, part_of, Written, Wrote}
 use Rattle.insertion.specs.Insertion.{joined, stopped, read_inserted, inserted_of, Within}
 use Rattle.putting.specs.Lines.{linked_line, linked_lines}
-use Rattle.insertion.specs.Plans.{embed_text, PlanOf, within_limit}
+use Rattle.insertion.specs.Plans.{embed_text, PlanOf}
 use Rattle.put.specs.declared.Source.{Source}
 use Rattle.put.specs.declared.Room.{Room}
 use Rattle.put.proofs.PutLaws.{source-part}
@@ -104,7 +104,7 @@ module _ (p : Place) (w : List ℕ) where
         rw (e, le-leb (length a) room.limit (omega (arith, h.below)), q)
 
     pub joined_put : room.at ≤ room.limit → (v : List ℕ) (r : Option ℕ) → Wrote room t w v r
-        → (read_inserted (within_limit r p) v ≡ inserted_of room.limit (take room.at w) p x) × Within (within_limit r p) room.limit
+        → (read_inserted (ok_or r (TextLimit p)) v ≡ inserted_of room.limit (take room.at w) p x) × Within (ok_or r (TextLimit p)) room.limit
     joined_put h v (Some n) k = (to v n k, k.below)
     joined_put h v None k = (over h k, tt)
 

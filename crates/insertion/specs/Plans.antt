@@ -3,9 +3,8 @@ use Rattle.std.specs.Prelude.{ℕ, ◌≤◌, ◌≡◌, List, [], map, length, 
 use Rattle.std.specs.Int.Signed.{mag}
 use Rattle.insertion.specs.declared.plan.Plan.{Plan}
 use Rattle.answer.specs.Answer.{place}
-use Rattle.answer.specs.declared.Place.{Place}
 use Rattle.answer.specs.declared.Refusal.{Refusal}
-use Rattle.answer.specs.declared.Refusal.TheVariants.{HeadingLevel, TextLimit}
+use Rattle.answer.specs.declared.Refusal.TheVariants.{HeadingLevel}
 use Rattle.text.specs.Bytes.{part}
 use Rattle.text.specs.Lines.{pieces}
 use Rattle.heading.specs.Walk.{walk_begin}
@@ -26,11 +25,3 @@ PlanOf s target (Err n) = (host name : List ℕ) (d : ℕ) → (xs : List Refusa
 PlanOf s target (Ok (Some p)) =
     ((p.start ≤ p.end) × ((p.end ≤ length s) × (mag p.shift ≤ 7)))
     × ((host name : List ℕ) (d : ℕ) → embed_text host name target d s ≡ good (map (linked_line host (parent_dir name) p.shift) (told_from walk_begin (pieces (part p.start p.end s)))))
-
--- 16 at a line of a file; what was put, or 17 at an opener
-abbrev pub past_level : ℕ → ℕ → Result ℕ Refusal
-past_level file line = Err (HeadingLevel (place file line))
-
-abbrev pub within_limit : Option ℕ → Place → Result ℕ Refusal
-within_limit (Some n) p = Ok n
-within_limit None p = Err (TextLimit p)

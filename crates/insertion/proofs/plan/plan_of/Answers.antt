@@ -1,5 +1,5 @@
 -- `insertion::plan::plan_of` meets its contract. Assumes nothing.
-use Rattle.std.specs.Prelude.{Some, Ok, Err}
+use Rattle.std.specs.Prelude.{Some, Ok}
 use mathlib.Core.Path.{sym, subst}
 use lib.IntN.{ℤ}
 use Rattle.heading.proofs.LevelLaws.{shift_kept}
