@@ -3,7 +3,7 @@
 // Prints the listing of a scan of the first 16,384 bytes of standard input, or the number and the line of a refusal.
 ghost use Rattle.std.specs.Prelude.{◌≤◌, length, IfOk};
 
-use answer::Answer;
+use answer::{Answer, Refusal};
 use std::io;
 use std::io::{Read, Write};
 
@@ -23,21 +23,19 @@ fn read_full(from: &mut impl Read, buf: &mut [u8]) -> io::Result<usize>
 }
 
 // `refused`, number, line.
-fn print_refusal(to: &mut impl Write, numbers: [u64; 6]) -> io::Result<()> {
-    let number = numbers[1];
-    let line = numbers[3];
-    write!(to, "refused\t{number}\t{line}\n")
+fn print_refusal(to: &mut impl Write, refusal: Refusal) -> io::Result<()> {
+    let [_, number, _, line, ..] = answer::numbers(Err(refusal));
+    writeln!(to, "refused\t{number}\t{line}")
 }
 
 fn main(rt: HostRuntime) -> io::Result<()> {
     let mut input = [0u8; 16384];
     let n = read_full(&mut rt.stdin(), &mut input)?;
     let mut out = [0u8; 65536];
-    let a = listing::scan(&input[..n], &mut out);
     let mut to = io::writer(&rt);
-    match a {
-        Ok(Answer::Accepted { length, files: _ }) => to.write_all(&out[..length]),
+    match listing::scan(&input[..n], &mut out) {
+        Ok(Answer::Accepted { length, .. }) => to.write_all(&out[..length]),
         Ok(Answer::NoRegion) => Ok(()),
-        Err(_) => print_refusal(&mut to, answer::numbers(a)),
+        Err(refusal) => print_refusal(&mut to, refusal),
     }
 }
