@@ -1,23 +1,23 @@
--- Laws of `specs/Members.antt`: the names of a list from a piece on and how many they are, a turn of the walk that finds their records, and the form
--- of a list by its tests. Assumes nothing.
+-- Laws of `specs/Members.antt`: the names of a list from a piece on and how many they are, a turn of the walk that finds their records and
+-- what the form of a list tells. Assumes nothing.
 use Rattle.std.specs.Prelude.{Some, None}
 use Prim.Native.Nat.{ℕ, suc, ◌+◌, ◌-◌, ◌≤◌, ◌<◌}
 use native.Mathlib.Nat.{add-zero}
 use native.Mathlib.Numerals.{add-one}
 use native.Mathlib.Omega.{arith}
-use mathlib.Core.Path.{◌≡◌, refl, sym, ◌∙◌}
-use mathlib.Core.Bool.{Bool, true, false, cond, not, ◌||◌}
+use mathlib.Core.Path.{◌≡◌, refl, ◌∙◌}
+use mathlib.Core.Bool.{Bool, true, false, cond, ◌||◌}
 use mathlib.Core.List.{List, [], ◌∷◌, ◌++◌, append_assoc, append-nil}
 use lib.ListN.{length, take, drop, set}
 use lib.Seq.{length-take-le, take-suc-set}
 use lib.Dec.{eqb, leb}
-use borrow.Author.Tests.{not-true, not-false, leb-true, le-leb, lt-leb, ne_eqb}
+use borrow.Author.Tests.{leb-true}
 use Rattle.text.specs.Bytes.{part, is, count}
 use Rattle.text.specs.Lines.{LF, pieces, pieces_after}
 use Rattle.text.specs.Pattern.{ends_with}
-use Rattle.text.specs.Split.{split}
 use Rattle.text.proofs.PatternLaws.{and_right}
 use Rattle.text.proofs.SplitLaws.{split-count}
+use Rattle.text.proofs.LineLaws.{before-end}
 use Rattle.index.specs.Index.{Record, find_record}
 use Rattle.fileset.specs.Members.{names, is_list, list_lines, absent_from, members_from}
 
@@ -60,48 +60,37 @@ module _ (rs : List Record) (n : ℕ) {ns : List (List ℕ)} (e : ns ≡ []) whe
   unfolding members_from
   members-end m = rw (e, add-zero, append-nil)
 
--- the form of a list, and how many lines it has
-module _ (s : List ℕ) where
-  pub list_empty : length s ≡ 0 → Some 0 ≡ list_lines s
-  unfolding list_lines split
-  list_empty h = go s h
-    where
-      go : (t : List ℕ) → length t ≡ 0 → Some 0 ≡ cond (is_list t) (Some (length (names t))) None
-      go [] k = refl
-      go (x ∷ t) k = absurd (omega arith)
-
-  module _ (h : length s ≡ 0 → ⊥) {l : Bool} (p : l ≡ ends_with (LF ∷ []) s) where
-    pub list_open : not l ≡ true → None ≡ list_lines s
-    unfolding list_lines
-    list_open e = rw (ne_eqb (length s) 0 h, sym p ∙ not-true l e)
-
-    module _ (e : not l ≡ false) {n : ℕ} (q : n ≡ length (names s)) where
-      pub list_long : 64 < n → None ≡ list_lines s
-      unfolding list_lines
-      list_long k = rw (ne_eqb (length s) 0 h, sym p ∙ not-false l e, ← q, lt-leb n 64 k)
-
-      pub list_closed : n ≤ 64 → Some n ≡ list_lines s
-      unfolding list_lines
-      list_closed k = rw (ne_eqb (length s) 0 h, sym p ∙ not-false l e, ← q, le-leb n 64 k)
-
 -- what an answer tells
 module _ (s : List ℕ) where
-  pub lines_none : None ≡ list_lines s → is_list s ≡ false
+  pub lines_none : list_lines s ≡ None → is_list s ≡ false
   unfolding list_lines
   lines_none e = go (is_list s) e
     where
-      go : (b : Bool) → None ≡ cond b (Some (length (names s))) None → b ≡ false
+      go : (b : Bool) → cond b (Some (length (names s))) None ≡ None → b ≡ false
       go false h = refl
-      go true h = let z : ◌≡◌ {A = ℕ} 0 1 = cc in absurd (omega arith)
+      go true h = cc
 
-  pub lines-some : {n : ℕ} → Some n ≡ list_lines s → (is_list s ≡ true) × (n ≡ length (names s))
+  pub lines_some : {n : ℕ} → list_lines s ≡ Some n → is_list s ≡ true
   unfolding list_lines
-  lines-some {n} e = go (is_list s) e
+  lines_some {n} e = go (is_list s) e
     where
-      go : (b : Bool) → Some n ≡ cond b (Some (length (names s))) None → (b ≡ true) × (n ≡ length (names s))
-      go true h = (refl, cc)
-      go false h = let z : ◌≡◌ {A = ℕ} 0 1 = cc in absurd (omega arith)
+      go : (b : Bool) → cond b (Some (length (names s))) None ≡ Some n → b ≡ true
+      go true h = refl
+      go false h = cc
+
+  pub lines_count : {n : ℕ} → list_lines s ≡ Some n → n ≡ length (names s)
+  unfolding list_lines
+  lines_count {n} e = go (is_list s) e
+    where
+      go : (b : Bool) → cond b (Some (length (names s))) None ≡ Some n → n ≡ length (names s)
+      go true h = cc
+      go false h = cc
 
 -- a list has at most 64 names
 pub list_short : (s : List ℕ) → is_list s ≡ true → length (names s) ≤ 64
 list_short s e = leb-true (length (names s)) 64 (and_right (eqb (length s) 0 || ends_with (LF ∷ []) s) (leb (length (names s)) 64) e)
+
+-- what the proofs of the functions apply
+pub ruleset counting = (names-count)
+
+pub ruleset walking = (names_more, names-none, absent-not, absent-here, absent_none, members_more, members-end, before-end)

@@ -27,6 +27,7 @@ pub fn record_count(index: &[u8]) -> usize
 }
 
 // Refusals 2 to 4.
+#[tactic(auto, using(index::proofs::RecordLaws::are_within))]
 fn check_records(
     index: &[u8],
     rows: &[usize; 256],
@@ -52,14 +53,13 @@ fn check_records(
 }
 
 // Refusals 1 to 4. The index is read into the rows.
+#[tactic(auto, using(crate::proofs::CheckLaws::reading), unfolding(crate::specs::Check::index_checked))]
 fn check_index(index: &[u8], contents: &[u8], rows: &mut [usize; 256]) -> Result<usize, Refusal>
     ensures value { result ≡ counted (index_checked index.now contents.now) (length (records index.now)) }
     ensures head_read { HeadRead index.now contents.now rows.new result }
 {
-    match rows::read(index, rows) {
-        Err(line) => Err(Refusal::IndexLine(line)),
-        Ok(count) => check_records(index, rows, count, contents.len()),
-    }
+    let count = rows::read(index, rows).map_err(|line| Refusal::IndexLine(line))?;
+    check_records(index, rows, count, contents.len())
 }
 
 // Refusals 1 to 6, for a host's text and name; an assembly or a book has its URL in the name's place, and an empty text.
@@ -73,10 +73,7 @@ fn check_head(
     ensures value { result ≡ counted (head_checked index.now contents.now text.now name.now) (length (records index.now)) }
     ensures head_read { HeadRead index.now contents.now rows.new result }
 {
-    let head = check_index(index, contents, rows);
-    let Ok(count) = head else {
-        return head;
-    };
+    let count = check_index(index, contents, rows)?;
     let line = ascii::wide_line(text);
     if line != 0 {
         return Err(Refusal::WideByte(Place { file: 0, line }));
@@ -88,30 +85,26 @@ fn check_head(
     if !name::is_name(name) {
         return Err(Refusal::NameForm);
     }
-    head
+    Ok(count)
 }
 
 // Refusal 8: the limit is out of its range, or the output has no room for it, or the work buffer none for a text a record and a list line and two more.
+#[tactic(auto, using(crate::proofs::CheckLaws::sizes_fit))]
 fn check_sizes(count: usize, lines: usize, sizes: Sizes) -> Result<(), Refusal>
     requires { (count ≤ 64) × (lines ≤ 64) }
     ensures { result ≡ refuse_sizes count lines sizes.limit sizes.output sizes.work }
 {
-    if sizes.limit < 1 {
-        return Err(Refusal::Sizes);
-    }
-    if 1048576 < sizes.limit {
-        return Err(Refusal::Sizes);
-    }
-    if sizes.output < sizes.limit {
-        return Err(Refusal::Sizes);
-    }
-    if sizes.work < (count + lines + 2) * sizes.limit {
+    if !(1..=1048576).contains(&sizes.limit)
+        || sizes.output < sizes.limit
+        || sizes.work < (count + lines + 2) * sizes.limit
+    {
         return Err(Refusal::Sizes);
     }
     Ok(())
 }
 
 // Refusals 7, 8 and 14. The record of each list line goes to the members.
+#[tactic(auto, using(crate::proofs::CheckLaws::listing))]
 fn check_list(
     list: &[u8],
     index: &[u8],
@@ -124,13 +117,8 @@ fn check_list(
     ensures value { result ≡ list_checked (records_in index.now rows.now 0 count) list.now sizes.limit sizes.output sizes.work }
     ensures listed { Listed (records_in index.now rows.now 0 count) list.now members.new result }
 {
-    let Some(lines) = members::list_lines(list) else {
-        return Err(Refusal::ListForm);
-    };
-    let sized = check_sizes(count, lines, sizes);
-    let Ok(()) = sized else {
-        return sized;
-    };
+    let lines = members::list_lines(list).ok_or(Refusal::ListForm)?;
+    check_sizes(count, lines, sizes)?;
     let line = members::read(list, index, rows, count, members);
     if line != 0 {
         return Err(Refusal::Absent(Place { file: 0, line }));
@@ -139,6 +127,7 @@ fn check_list(
 }
 
 // The refusals of a fill.
+#[tactic(auto, using(crate::proofs::CheckLaws::heading), unfolding(crate::specs::Check::fill_checked))]
 pub fn check_fill(
     index: &[u8],
     contents: &[u8],
@@ -150,13 +139,12 @@ pub fn check_fill(
     ensures value { result ≡ fill_checked index.now contents.now name.now text.now sizes.limit sizes.output sizes.work }
     ensures read { Read index.now contents.now rows.new result }
 {
-    match check_head(index, contents, text, name, rows) {
-        Err(refusal) => Err(refusal),
-        Ok(count) => check_sizes(count, 0, sizes),
-    }
+    let count = check_head(index, contents, text, name, rows)?;
+    check_sizes(count, 0, sizes)
 }
 
 // The refusals of an assembly or a book.
+#[tactic(auto, using(crate::proofs::CheckLaws::heading), unfolding(crate::specs::Check::book_checked))]
 pub fn check_book(
     index: &[u8],
     contents: &[u8],
@@ -170,8 +158,6 @@ pub fn check_book(
     ensures read { Read index.now contents.now rows.new result }
     ensures listed { Listed (records index.now) list.now members.new result }
 {
-    match check_head(index, contents, b"", url, rows) {
-        Err(refusal) => Err(refusal),
-        Ok(count) => check_list(list, index, rows, count, sizes, members),
-    }
+    let count = check_head(index, contents, b"", url, rows)?;
+    check_list(list, index, rows, count, sizes, members)
 }

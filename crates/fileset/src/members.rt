@@ -7,6 +7,7 @@ use index::rows;
 use text::{bytes, lines, pattern};
 
 // How many lines a list has.
+#[tactic(auto, using(crate::proofs::MemberLaws::counting))]
 pub fn line_count(list: &[u8]) -> usize
     ensures { result ≡ length (names list.now) }
 {
@@ -14,23 +15,17 @@ pub fn line_count(list: &[u8]) -> usize
 }
 
 // The same, where each line ends in LF and they are at most 64.
+#[tactic(auto, unfolding(crate::specs::Members::list_lines))]
 pub fn list_lines(list: &[u8]) -> Option<usize>
     ensures { result ≡ list_lines list.now }
 {
-    if list.len() == 0 {
-        return Some(0);
-    }
-    if !pattern::ends_with(list, b"\n") {
-        return None;
-    }
-    let n = line_count(list);
-    if 64 < n {
-        return None;
-    }
-    Some(n)
+    let count = line_count(list);
+    let ended = list.is_empty() || pattern::ends_with(list, b"\n");
+    (ended && count <= 64).then_some(count)
 }
 
 // Finds the record of each line's name and answers the first line that has none, or 0.
+#[tactic(auto, using(crate::proofs::MemberLaws::walking))]
 pub fn read(
     list: &[u8],
     index: &[u8],
@@ -44,22 +39,17 @@ pub fn read(
 {
     *members = [0usize; 64];
     let mut n = 0;
-    let mut a = 0;
+    let mut start = 0;
     loop {
-        let p = lines::piece(list, a);
-        let e = p.end;
-        if p.last {
+        let name = lines::piece(list, start);
+        if name.last {
             return 0;
         }
-        match rows::find(index, rows, count, &list[a..e]) {
-            Some(k) => {
-                members[n] = k;
-                n += 1;
-                a = e + 1;
-            }
-            None => {
-                return n + 1;
-            }
-        }
+        let Some(record) = rows::find(index, rows, count, &list[start..name.end]) else {
+            return n + 1;
+        };
+        members[n] = record;
+        n += 1;
+        start = name.end + 1;
     }
 }
