@@ -5,6 +5,7 @@ use native.Mathlib.Omega.{arith}
 use mathlib.Core.Path.{◌≡◌, refl, sym, ap, subst, ◌∙◌}
 use mathlib.Core.List.{List, ◌++◌}
 use lib.ListN.{length, drop}
+use Rattle.text.specs.declared.part.Part.{Part}
 use Rattle.text.specs.Bytes.{part}
 use Rattle.text.proofs.BytesLaws.{rest}
 use Rattle.link.specs.Links.{relink, FoundLink}
@@ -49,9 +50,15 @@ module _ {source : Source} {room : Room} {c w : List ℕ} (able : Able source ro
         reached_last p.reached u r (subst (λ (x : List ℕ). Wrote (room_at room at) x v u r) t q)
 
     -- a link: what stands before its target is put, and then what the target becomes
-    module _ (a e : ℕ) (h : FoundLink (source_text source c v) i (Some (record { start = a; end = e }))) where
-      found : FoundLink (source_text source c w) i (Some (record { start = a; end = e }))
-      found = subst (λ (x : List ℕ). FoundLink x i (Some (record { start = a; end = e }))) same h
+    module _ {link : Part} (h : FoundLink (source_text source c v) i (Some link)) where
+      abbrev a : ℕ
+      a = link.start
+
+      abbrev e : ℕ
+      e = link.end
+
+      found : FoundLink (source_text source c w) i (Some link)
+      found = subst (λ (x : List ℕ). FoundLink x i (Some link)) same h
 
       pub link_bounds : ((i ≤ a) × (a ≤ e)) × ((e ≤ source.end - source.start) × (i < e))
       link_bounds = ((found.0.0, found.0.1.0), (omega (arith, source-length able, found.0.1.1), link_long (source_text source c w) i a e found))

@@ -8,10 +8,8 @@ ghost use Rattle.put.specs.Put.{source_text, Able, Wrote};
 ghost use Rattle.members.specs.Members.{AllStand};
 ghost use Rattle.target.specs.Titles.{titles_in};
 
-use link::links::Part;
+use link::links;
 use put::{Room, Source};
-
-mod read;
 
 // A source with each link's target as it becomes in a directory.
 pub fn put_links(
@@ -29,18 +27,12 @@ pub fn put_links(
     ensures { Wrote room (relink (rewrite_target (titles_in index.now contents.now work.old set.now count) url.now dir.now) (source_text source contents.now work.old)) work.old work.new result }
 {
     let limit = room.limit;
-    let n = source.end - source.start;
     let mut at = room.at;
     let mut i = 0;
-    loop {
-        let Some(Part { start: a, end: e }) = read::link_in(contents, work, source, i) else {
-            return put::put_part(contents, source, i, n, Room { at, limit }, work);
-        };
-        let Some(m) = put::put_part(contents, source, i, a, Room { at, limit }, work) else {
-            return None;
-        };
-        let target = put::part_of(source, a, e);
-        let Some(behind) = target::put_target(
+    while let Some(link) = links::next_link(source.bytes(contents, work), i) {
+        at = put::put_part(contents, source, i, link.start, Room { at, limit }, work)?;
+        let target = put::part_of(source, link.start, link.end);
+        at = target::put_target(
             index,
             contents,
             url,
@@ -48,12 +40,11 @@ pub fn put_links(
             count,
             target,
             dir,
-            Room { at: m, limit },
+            Room { at, limit },
             work,
-        ) else {
-            return None;
-        };
-        at = behind;
-        i = e;
+        )?;
+        i = link.end;
     }
+    let end = source.end - source.start;
+    put::put_part(contents, source, i, end, Room { at, limit }, work)
 }
