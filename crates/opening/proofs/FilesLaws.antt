@@ -11,6 +11,7 @@ use borrow.Author.Tests.{lt-ltb, le-ltb}
 use Rattle.text.specs.Bytes.{part}
 use Rattle.text.specs.Pattern.{equals}
 use Rattle.answer.specs.declared.Place.{Place}
+use Rattle.answer.specs.declared.Refusal.{Refusal}
 use Rattle.answer.specs.declared.Refusal.TheVariants.{OnChain, Absent, Allowance}
 use Rattle.index.specs.Index.{file_of, file_text, files_from, find_record}
 use Rattle.index.specs.Rows.{row_at, record_of, records_in}
@@ -77,3 +78,5 @@ row_lies {index} {rows} {room} d a e h = record {
   within = row_within e (length index) (a.named.within d h);
   fits = row_fits e room (a.within.fits d h);
 }
+
+pub ruleset leads = (find-row, named-absent, named_marked, named_spent, named-given)

@@ -32,6 +32,7 @@ pub struct Opened {
 }
 
 // The file that a name leads to: 13, 14, then 15.
+#[tactic(auto, using(crate::proofs::FilesLaws::leads))]
 fn named_file(
     index: &[u8],
     rows: &[usize; 256],
@@ -48,18 +49,14 @@ fn named_file(
     if pattern::equals(name, top) {
         return Err(Refusal::OnChain(opener));
     }
-    match rows::find(index, rows, at.count, name) {
-        Some(file) => {
-            if marks[file] {
-                return Err(Refusal::OnChain(opener));
-            }
-            if at.allowance <= at.used {
-                return Err(Refusal::Allowance(opener));
-            }
-            Ok(file)
-        }
-        None => Err(Refusal::Absent(opener)),
+    let file = rows::find(index, rows, at.count, name).ok_or(Refusal::Absent(opener))?;
+    if marks[file] {
+        return Err(Refusal::OnChain(opener));
     }
+    if at.allowance <= at.used {
+        return Err(Refusal::Allowance(opener));
+    }
+    Ok(file)
 }
 
 // Puts a block of the host behind the running text; 17 at a place.
@@ -99,24 +96,15 @@ pub fn open_region(
         (next_named (files_in index.now rows.now contents at.count) top.now marks (place at.number o.line) (part o.path.start o.path.end s.now))) }
     ensures opened_within { OpenedWithin result at.limit }
 {
-    let end = o.end;
     let opener = Place {
         file: at.number,
         line: o.line,
     };
-    match put_block(&s[from..end], opener, at.limit, len, work) {
-        Ok(length) => {
-            if o.headless {
-                return Err(Refusal::PeerWithoutHeading(opener));
-            }
-            let path = o.path;
-            let a = path.start;
-            let e = path.end;
-            match named_file(index, rows, top, marks, &s[a..e], opener, at) {
-                Ok(file) => Ok(Opened { file, length }),
-                Err(refusal) => Err(refusal),
-            }
-        }
-        Err(refusal) => Err(refusal),
+    let length = put_block(&s[from..o.end], opener, at.limit, len, work)?;
+    if o.headless {
+        return Err(Refusal::PeerWithoutHeading(opener));
     }
+    let name = &s[o.path.start..o.path.end];
+    let file = named_file(index, rows, top, marks, name, opener, at)?;
+    Ok(Opened { file, length })
 }
