@@ -16,8 +16,10 @@ const MOST_CASES: usize = 100_000;
 fn print_scan(to: &mut impl Write, text: &[u8], out: &mut [u8]) -> io::Result<()> {
     let answer = listing::scan(text, out);
     print::numbers(to, answer::numbers(answer))?;
-    if let Ok(Answer::Accepted { length, .. }) = answer {
-        to.write_all(&out[..length])?;
+    if let Ok(Answer::Accepted { length, .. }) = answer
+        && let Some(rows) = out.get(..length)
+    {
+        to.write_all(rows)?;
     }
     if ascii::wide_line(text) == 0 {
         outline::print(to, text)?;

@@ -24,18 +24,13 @@ fn write_full(to: &mut impl Write, block: &[u8; 64], used: usize) -> io::Result<
 fn print_anchor(to: &mut impl Write, text: &[u8]) -> io::Result<()> {
     let mut block = [0u8; 64];
     let mut used = 0;
-    let mut c = anchor::start(text);
-    loop {
-        let x = anchor::next(text, c);
-        match x {
-            Some((b, d)) => {
-                block[used] = b;
-                used = write_full(to, &block, used + 1)?;
-                c = d;
-            }
-            None => return to.write_all(&block[..used]),
-        }
+    let mut cursor = anchor::start(text);
+    while let Some((byte, next)) = anchor::next(text, cursor) {
+        block[used] = byte;
+        used = write_full(to, &block, used + 1)?;
+        cursor = next;
     }
+    to.write_all(&block[..used])
 }
 
 // `quoted` and the line's number.
@@ -71,16 +66,15 @@ fn print_line(
     number: usize,
     line: &[u8],
 ) -> io::Result<WalkState> {
-    let w = walk::step(state, line);
-    let kind = w.kind;
-    match kind {
+    let step = walk::step(state, line);
+    match step.kind {
         LineKind::Quoted => print_quoted(to, number)?,
         LineKind::Heading { level, start, end } => {
             print_heading(to, number, level, start, end, &line[start..end])?;
         }
         LineKind::Other => (),
     }
-    Ok(w.state)
+    Ok(step.state)
 }
 
 // The rows of a text, in the order of its lines, which stand between LFs and count from 1.
@@ -89,13 +83,12 @@ pub fn print(to: &mut impl Write, text: &[u8]) -> io::Result<()> {
     let mut number = 1;
     let mut a = 0;
     loop {
-        let p = lines::piece(text, a);
-        let e = p.end;
-        state = print_line(to, state, number, &text[a..e])?;
-        if p.last {
+        let piece = lines::piece(text, a);
+        state = print_line(to, state, number, &text[a..piece.end])?;
+        if piece.last {
             return Ok(());
         }
         number += 1;
-        a = e + 1;
+        a = piece.end + 1;
     }
 }

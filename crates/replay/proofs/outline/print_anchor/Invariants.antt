@@ -3,8 +3,8 @@ use Rattle.std.proofs.Common.{◌-◌, ◌<◌, length}
 use Rattle.anchor.specs.Anchor.{CursorWithin}
 use Rattle.replay.proofs.outline.print_anchor.Given as goal
 
-abbrev pub invariant-loop-b : goal.invariant-loop-b
-invariant-loop-b g l = CursorWithin l.c l.text × (l.used < 64)
+abbrev pub invariant-loop-byte : goal.invariant-loop-byte
+invariant-loop-byte g l = CursorWithin l.cursor l.text × (l.used < 64)
 
-abbrev pub decreases-loop-b : goal.decreases-loop-b
-decreases-loop-b g l = length l.text - l.c.at
+abbrev pub decreases-loop-byte : goal.decreases-loop-byte
+decreases-loop-byte g l = length l.text - l.cursor.at
