@@ -55,9 +55,6 @@ module _ (index rows contents : List ℕ) where
     abbrev leading : Result ℕ Refusal
     leading = named_of B used p (next_named (files_in index rows contents n) top m p name)
 
-    pub named-top : equals top name ≡ true → Err (OnChain p) ≡ leading
-    named-top e = rw e
-
     module _ (off : equals top name ≡ false) where
       pub named-absent : None ≡ find_record name (records_in index rows 0 n) → Err (Absent p) ≡ leading
       named-absent e = rw (off, find-files name 1 contents (records_in index rows 0 n), ← e)
