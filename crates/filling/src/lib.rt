@@ -9,7 +9,7 @@ ghost use Rattle.opening.specs.Opening.{files_in};
 ghost use Rattle.filling.specs.Filling.{read_filled, FilledWithin, with_files, FoundNext, CanGo};
 
 use answer::{Answer, Place, Refusal};
-use opening::{Filling, Opened};
+use opening::Filling;
 use regions::host;
 use regions::host::HostCursor;
 
@@ -37,10 +37,8 @@ pub fn with_files(put: Result<usize, Refusal>, files: usize) -> Result<Answer, R
     ensures by_index { (w : List ℕ) → read_filled result w ≡ with_files files (read_inserted put w) }
     ensures by_index_2 { (limit : ℕ) → Within put limit → FilledWithin result limit }
 {
-    match put {
-        Ok(length) => Ok(Answer::Accepted { length, files }),
-        Err(refusal) => Err(refusal),
-    }
+    let length = put?;
+    Ok(Answer::Accepted { length, files })
 }
 
 // The host's bytes behind the last region; 17 at line 0.
@@ -82,21 +80,19 @@ pub fn next_file(
     ensures { (contents : List ℕ) → FoundNext (files_in index.now rows.now contents at.count) top.now marks s.now at c
         (take len work.old) result work.new }
 {
-    let from = c.from;
-    match host::next_host(s, c) {
-        Some((o, behind)) => match opening::open_region(
-            index, rows, top, marks, s, from, o, at, len, work,
-        ) {
-            Ok(Opened { file, length }) => {
-                let spot = Spot {
-                    line: o.line,
-                    target: o.target,
-                    len: length,
-                };
-                NextFile::Into { file, spot, behind }
-            }
-            Err(refusal) => NextFile::Done(Err(refusal)),
+    let Some((region, behind)) = host::next_host(s, c) else {
+        return NextFile::Done(fill_last(s, c.from, at, len, work));
+    };
+    match opening::open_region(index, rows, top, marks, s, c.from, region, at, len, work) {
+        Ok(opened) => NextFile::Into {
+            file: opened.file,
+            spot: Spot {
+                line: region.line,
+                target: region.target,
+                len: opened.length,
+            },
+            behind,
         },
-        None => NextFile::Done(fill_last(s, from, at, len, work)),
+        Err(refusal) => NextFile::Done(Err(refusal)),
     }
 }
