@@ -1,4 +1,5 @@
 -- Laws of a member's lines put one after the other: a line, lines put as a block, and all. Assumes nothing.
+use Rattle.std.specs.Prelude.{Some}
 use Prim.Native.Nat.{ℕ, suc, ◌+◌, ◌-◌, ◌≤◌, ◌<◌}
 use native.Mathlib.Omega.{arith}
 use mathlib.Core.Path.{◌≡◌, sym, ap, subst, ◌∙◌}
@@ -15,7 +16,8 @@ use Rattle.put.specs.declared.Source.{Source}
 use Rattle.put.specs.declared.Room.{Room}
 use Rattle.put.proofs.NewTextLaws.{kind_in}
 use Rattle.put.proofs.PutLaws.{Reached, room_at, reached_start, reached_next, reached_over, reached_end, source-length, source-same}
-use Rattle.member.specs.Lines.{left_of, at_first, CursorIn, IsLine}
+use Rattle.member.specs.Lines.{left_of, at_first, CursorIn, IsLine, FoundLine}
+use Rattle.member.specs.declared.lines.KeptLine.{KeptLine}
 use Rattle.member.specs.Passed.{PassedTo}
 use Rattle.outline.specs.Seen.{titled_by, moved_kind}
 use Rattle.member.specs.declared.lines.LineCursor.{LineCursor}
@@ -69,7 +71,19 @@ module _ {source : Source} {room : Room} {c w : List ℕ} (able : Able source ro
       }
 
     -- a line is left
-    module _ (a e : ℕ) (k : LineKind) (b : LineCursor) (h : IsLine (source_text source c v) d a e k b) where
+    module _ {found : KeptLine} (h : FoundLine (source_text source c v) d (Some found)) where
+      abbrev a : ℕ
+      a = found.start
+
+      abbrev e : ℕ
+      e = found.end
+
+      abbrev k : LineKind
+      k = found.kind
+
+      abbrev b : LineCursor
+      b = found.behind
+
       line : IsLine (source_text source c w) d a e k b
       line = subst (λ (s : List ℕ). IsLine s d a e k b) same h
 

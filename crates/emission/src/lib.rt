@@ -9,10 +9,8 @@ ghost use Rattle.members.specs.Members.{AllStand};
 ghost use Rattle.target.specs.Titles.{titles_in};
 ghost use Rattle.emission.specs.Emission.{emitted_text};
 
-use member::lines::KeptLine;
+use member::lines;
 use put::{Room, Source};
-
-mod read;
 
 // The lines that a member keeps of a source, its file being in a directory. Those that neither change nor have a link are put as a block.
 pub fn put_lines(
@@ -32,34 +30,33 @@ pub fn put_lines(
 {
     let limit = room.limit;
     let mut at = room.at;
-    let mut c = member::lines::first();
+    let mut cursor = lines::first();
     let mut titled = false;
     loop {
-        let passed = read::unlinked_in(contents, work, source, c);
-        let d = passed.behind;
-        let Some(m) = emitted::put_block(contents, source, c, d, Room { at, limit }, work) else {
-            return None;
+        let passed = lines::pass(source.bytes(contents, work), cursor, 0, true);
+        let next = passed.behind;
+        at = emitted::put_block(contents, source, cursor, next, Room { at, limit }, work)?;
+        let Some(line) = lines::next_line(source.bytes(contents, work), next) else {
+            return Some(at);
         };
-        let Some(
-            KeptLine {
-                start: a,
-                end: e,
-                kind,
-                behind,
-            },
-        ) = read::line_in(contents, work, source, d)
-        else {
-            return Some(m);
-        };
-        let moved = outline::moved_kind(titled, kind);
-        let room = Room { at: m, limit };
-        let Some(n) = emitted::put_next(
-            index, contents, url, set, count, source, moved, a, e, d.line, shift, dir, room, work,
-        ) else {
-            return None;
-        };
-        at = n;
-        c = behind;
-        titled = outline::titled_by(titled, kind);
+        let moved = outline::moved_kind(titled, line.kind);
+        at = emitted::put_next(
+            index,
+            contents,
+            url,
+            set,
+            count,
+            source,
+            moved,
+            line.start,
+            line.end,
+            next.line,
+            shift,
+            dir,
+            Room { at, limit },
+            work,
+        )?;
+        cursor = line.behind;
+        titled = outline::titled_by(titled, line.kind);
     }
 }

@@ -5,10 +5,10 @@ use Rattle.target.specs.Titles.{titles_in}
 use Rattle.emission.proofs.PuttingLaws.{Putting}
 use Rattle.emission.proofs.put_lines.Given as goal
 
-abbrev pub invariant-loop-m : goal.invariant-loop-m
-invariant-loop-m l =
-    Putting (rewrite_target (titles_in l.index l.contents l.initial.work l.set l.count) l.url l.dir) l.shift l.source (record { at = l.initial.at; limit = l.limit }) l.contents l.initial.work l.work l.at l.c l.titled
+abbrev pub invariant-loop-at : goal.invariant-loop-at
+invariant-loop-at l =
+    Putting (rewrite_target (titles_in l.index l.contents l.initial.work l.set l.count) l.url l.dir) l.shift l.source (record { at = l.initial.at; limit = l.limit }) l.contents l.initial.work l.work l.at l.cursor l.titled
 
-abbrev pub decreases-loop-m : goal.decreases-loop-m
-decreases-loop-m l =
-    l.source.end - l.source.start + 1 - l.c.at
+abbrev pub decreases-loop-at : goal.decreases-loop-at
+decreases-loop-at l =
+    l.source.end - l.source.start + 1 - l.cursor.at
