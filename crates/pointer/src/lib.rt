@@ -19,14 +19,15 @@ pub fn put_anchor(contents: &[u8], title: Source, room: Room, work: &mut [u8]) -
     let limit = room.limit;
     let mut at = room.at;
     let mut b = b'#';
-    let mut c = sources::anchor_in(contents, work, title);
+    let mut c = anchor::start(title.bytes(contents, work));
     loop {
         if at == limit {
             return None;
         }
         work[at] = b;
         at += 1;
-        let Some((next, behind)) = sources::byte_in(contents, work, title, c) else {
+        let text = title.bytes(contents, work);
+        let Some((next, behind)) = anchor::next(text, c) else {
             return Some(at);
         };
         b = next;
@@ -41,9 +42,7 @@ fn put_root(url: &[u8], room: Room, work: &mut [u8]) -> Option<usize>
 {
     let limit = room.limit;
     let n = target::url_length(url);
-    let Some(at) = put::put_bytes(&url[..n], room, work) else {
-        return None;
-    };
+    let at = put::put_bytes(&url[..n], room, work)?;
     put::put_bytes(b"/blob/main/", Room { at, limit }, work)
 }
 
@@ -52,7 +51,7 @@ fn put_path(contents: &[u8], path: Source, dir: &[u8], room: Room, work: &mut [u
     requires { Able path room contents.now work.old }
     ensures { Wrote room (resolve dir.now (source_text path contents.now work.old)) work.old work.new result }
 {
-    let n = sources::length_in(contents, work, path, dir);
+    let n = resolve::resolved_length(path.bytes(contents, work), dir);
     if room.limit - room.at < n {
         return None;
     }
@@ -82,12 +81,8 @@ pub fn put_outside(
 {
     let limit = room.limit;
     let n = target.end - target.start;
-    let Some(at) = put_root(url, room, work) else {
-        return None;
-    };
-    let Some(m) = put::put_bytes(resolved, Room { at, limit }, work) else {
-        return None;
-    };
+    let at = put_root(url, room, work)?;
+    let m = put::put_bytes(resolved, Room { at, limit }, work)?;
     put::put_part(contents, target, e, n, Room { at: m, limit }, work)
 }
 
@@ -106,12 +101,8 @@ pub fn put_far(
 {
     let limit = room.limit;
     let n = target.end - target.start;
-    let Some(at) = put_root(url, room, work) else {
-        return None;
-    };
+    let at = put_root(url, room, work)?;
     let path = put::part_of(target, 0, e);
-    let Some(m) = put_path(contents, path, dir, Room { at, limit }, work) else {
-        return None;
-    };
+    let m = put_path(contents, path, dir, Room { at, limit }, work)?;
     put::put_part(contents, target, e, n, Room { at: m, limit }, work)
 }

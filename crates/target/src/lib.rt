@@ -8,6 +8,7 @@ ghost use Rattle.put.specs.Put.{source_text, Able, Wrote};
 ghost use Rattle.members.specs.Members.{member_at, title_source, AllStand};
 ghost use Rattle.target.specs.Titles.{titles_in, Named, FoundMember, TitleIn, inside};
 
+use link::target;
 use put::{Room, Source};
 use text::pattern;
 
@@ -92,7 +93,7 @@ fn put_placed(
 {
     let mut resolved = [0u8; 256];
     let path = put::part_of(target, 0, e);
-    match sources::resolve_in(contents, work, path, dir, &mut resolved) {
+    match resolve::resolve_into(path.bytes(contents, work), dir, &mut resolved) {
         Some(a) => put_named(
             index,
             contents,
@@ -124,7 +125,7 @@ pub fn put_target(
     requires { Able target room contents.now work.old × AllStand index.now (length contents.now) room.limit (length work.old) set.now count }
     ensures { Wrote room (rewrite_target (titles_in index.now contents.now work.old set.now count) url.now dir.now (source_text target contents.now work.old)) work.old work.new result }
 {
-    match sources::target_in(contents, work, target) {
+    match target::read_target(target.bytes(contents, work)) {
         None => {
             let n = target.end - target.start;
             put::put_part(contents, target, 0, n, room, work)

@@ -6,11 +6,11 @@ use Rattle.put.proofs.PutLaws.{reached_length, able_read, inside-any}
 use Rattle.pointer.proofs.PutLaws.{anchoring_start, anchor_over, anchor_byte, anchor_within, anchor_end, anchor_less, anchor_on}
 use Rattle.pointer.proofs.put_anchor.Goals as goal
 
-pub anchor_in-c-requires : goal.anchor_in-c-requires
-anchor_in-c-requires c = inside-any c.args.title c.args.room.limit (length c.args.contents.now) (length c.args.work.now) c.requires.inside
+pub bytes-requires : goal.bytes-requires
+bytes-requires c = inside-any c.args.title c.args.room.limit (length c.args.contents.now) (length c.args.work.now) c.requires.inside
 
 pub loop-at-init : goal.loop-at-init
-loop-at-init c = anchoring_start c.requires c.anchor_in-c.result c.anchor_in-c.ensures.work_value c.anchor_in-c.ensures.cursor_within
+loop-at-init c = anchoring_start c.requires c.start-c.result (rw (c.bytes.ensures.text) at c.start-c.ensures.text_value) (rw (c.bytes.ensures.text) at c.start-c.ensures.cursor_within)
 
 pub shape_of-work-then-at-limit : goal.shape_of-work-then-at-limit
 shape_of-work-then-at-limit c = reached_length c.loop-at.invariant.reached
@@ -24,10 +24,15 @@ bounds-work-at c = let p = c.loop-at.invariant.reached in omega (arith, reached_
 pub overflow_add-at : goal.overflow_add-at
 overflow_add-at c = let p = c.loop-at.invariant.reached in omega (arith, p.below, c.if-at-limit.false, c.well_formed)
 
-pub byte_in-requires : goal.byte_in-requires
-byte_in-requires c = let p = c.loop-at.invariant in
+pub bytes-text-requires : goal.bytes-text-requires
+bytes-text-requires c = let p = c.loop-at.invariant in
     let h : c.loop-at.at < c.args.room.limit = omega (arith, p.reached.below, c.if-at-limit.false) in
-    (able_read c.requires (anchor_byte c.requires p h), anchor_within c.requires p h)
+    able_read c.requires (anchor_byte c.requires p h)
+
+pub next-requires : goal.next-requires
+next-requires c = let p = c.loop-at.invariant in
+    let h : c.loop-at.at < c.args.room.limit = omega (arith, p.reached.below, c.if-at-limit.false) in
+    rw c.bytes-text.ensures.text (anchor_within c.requires p h)
 
 pub shape_of-work-in_default : goal.shape_of-work-in_default
 shape_of-work-in_default c = let p = c.loop-at.invariant in
@@ -37,14 +42,14 @@ shape_of-work-in_default c = let p = c.loop-at.invariant in
 pub returns-in_default : goal.returns-in_default
 returns-in_default c = let p = c.loop-at.invariant in
     let h : c.loop-at.at < c.args.room.limit = omega (arith, p.reached.below, c.if-at-limit.false) in
-    anchor_end c.requires p h (rw c.in_default.is at c.byte_in.ensures)
+    anchor_end c.requires p h (rw (c.in_default.is, c.bytes-text.ensures.text) at c.next.ensures)
 
 pub loop-at-smaller : goal.loop-at-smaller
 loop-at-smaller c = let p = c.loop-at.invariant in
     let h : c.loop-at.at < c.args.room.limit = omega (arith, p.reached.below, c.if-at-limit.false) in
-    omega (arith, anchor_less c.requires p h c.in-Some.next c.in-Some.behind (rw c.in-Some.is at c.byte_in.ensures))
+    omega (arith, anchor_less c.requires p h c.in-Some.next c.in-Some.behind (rw (c.in-Some.is, c.bytes-text.ensures.text) at c.next.ensures))
 
 pub loop-at-preserved : goal.loop-at-preserved
 loop-at-preserved c = let p = c.loop-at.invariant in
     let h : c.loop-at.at < c.args.room.limit = omega (arith, p.reached.below, c.if-at-limit.false) in
-    anchor_on c.requires p h c.in-Some.next c.in-Some.behind (rw c.in-Some.is at c.byte_in.ensures)
+    anchor_on c.requires p h c.in-Some.next c.in-Some.behind (rw (c.in-Some.is, c.bytes-text.ensures.text) at c.next.ensures)
