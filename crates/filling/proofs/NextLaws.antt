@@ -10,6 +10,7 @@ use Rattle.answer.specs.declared.Refusal.{Refusal}
 use Rattle.text.specs.Bytes.{part}
 use Rattle.index.specs.Index.{File, file_of}
 use Rattle.regions.specs.Hosts.{host_rest, region_at, WholeHost, LastHost}
+use Rattle.regions.proofs.HostLaws.{host-within}
 use Rattle.regions.specs.declared.host.HostCursor.{HostCursor}
 use Rattle.regions.specs.declared.host.Opening.{Opening}
 use Rattle.opening.specs.declared.Filling.{Filling}
@@ -64,3 +65,5 @@ module _ (S : List File) (top : List ℕ) (m : List Bool) {s : List ℕ} (at : F
               (region_at at.number name s w.before o) (host_rest (file_of at.number name s) d) (w.rest at.number name) o.headless refl w.append
               w.lines u f (sym e) d.from w.some;
         }
+
+pub ruleset nexts = (done_last, done_barred, host-within)

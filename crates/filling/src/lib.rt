@@ -65,6 +65,7 @@ fn fill_last(
 }
 
 // The next file of a host from a cursor on, behind the running text; or the host's last bytes, or a refusal.
+#[tactic(auto, using(crate::proofs::NextLaws::nexts))]
 pub fn next_file(
     index: &[u8],
     rows: &[usize; 256],
