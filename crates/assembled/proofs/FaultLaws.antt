@@ -34,13 +34,10 @@ prepare_fault h = go (title_of (prepared_lines h.text))
     go (Some t) = refl
 
 -- 19
-at_fault : (p q : Place) → all_faults (shared_at p q) ≡ true
+at_fault : (p : Place) (q : Option Place) → all_faults (shared_at p q) ≡ true
 unfolding all_faults
-at_fault p q = go (eqb q.line 0)
-  where
-    go : (b : Bool) → all_faults (cond b [] (SharedAnchor p q ∷ [])) ≡ true
-    go true = refl
-    go false = refl
+at_fault p (Some q) = refl
+at_fault p None = refl
 
 line_fault : (qs : List Prepared) (m : Prepared) (n : ℕ) (k : LineKind) (l : List ℕ) → all_faults (shared_line qs m n (record { kind = k; bytes = l })) ≡ true
 unfolding all_faults

@@ -26,7 +26,7 @@ use Rattle.walk.proofs.HoldLaws.{Each, each_append, Holds, holds_go, holds_unles
 use Rattle.shift.specs.Shift.{Told}
 use Rattle.chains.proofs.PlaceLaws.{past_places}
 use Rattle.member.specs.Member.{Prepared, title_of, titled, prepared_lines, prepare}
-use Rattle.earlier.specs.Earlier.{line_of, earlier}
+use Rattle.earlier.specs.Earlier.{bears, line_of, place_or, earlier}
 use Rattle.shared.specs.Shared.{shared_at, shared_line, shared_in, shared_from, compare}
 use Rattle.target.specs.Titles.{title_named}
 use Rattle.emitted.specs.Emit.{emit, join_lines}
@@ -72,26 +72,39 @@ module _ {P : Refusal → Type 0} {n : ℕ} (h : AssemblyPlaces P n) where
       holds_go P Known AllKnown (part (prepare f)) _ (prepare-holds f q.0) (λ m k. holds_go P AllKnown AllKnown (prepare_all hs) (λ ms. done (m ∷ ms)) (all-holds hs q.1) (λ ms ks. (k, ks)))
 
   -- 19
-  -- where an earlier member has an anchor: a place in a member, or line 0
-  abbrev Earlier : Place → Type 0
-  Earlier p = (p.line ≡ 0 → ⊥) → ((1 ≤ p.file) × (p.file ≤ n))
+  -- where an earlier member has an anchor: a place in a member, or none
+  abbrev Earlier : Option Place → Type 0
+  Earlier None = Unit {0}
+  Earlier (Some p) = (1 ≤ p.file) × ((p.file ≤ n) × (1 ≤ p.line))
+
+  abbrev From : ℕ → Option ℕ → Type 0
+  From l None = Unit {0}
+  From l (Some m) = l ≤ m
+
+  line_from : (a : List ℕ) (l : ℕ) (ts : List Told) → From l (line_of a l ts)
+  unfolding line_of
+  line_from a l [] = tt
+  line_from a l (t ∷ ts) = go (bears a t) (line_of a (l + 1) ts) (line_from a (l + 1) ts)
+    where
+      go : (b : Bool) (o : Option ℕ) → From (l + 1) o → From l (cond b (Some l) o)
+      go true o h = omega arith
+      go false None h = tt
+      go false (Some m) h = omega arith
 
   earlier-known : (name a : List ℕ) (qs : List Prepared) → AllKnown qs → Earlier (earlier name a qs)
   unfolding earlier Each
-  earlier-known name a [] q = λ e. absurd (e refl)
-  earlier-known name a (m ∷ qs) q = at_test (not (equals name m.name) && not (eqb (line_of a 1 m.lines) 0)) (earlier-known name a qs q.1)
+  earlier-known name a [] q = tt
+  earlier-known name a (m ∷ qs) q = go (equals name m.name) (line_of a 1 m.lines) (line_from a 1 m.lines) (earlier-known name a qs q.1)
     where
-      at_test : (b : Bool) → Earlier (earlier name a qs) → Earlier (cond b (place m.file (line_of a 1 m.lines)) (earlier name a qs))
-      at_test true ih e = q.0
-      at_test false ih e = ih e
+      go : (b : Bool) (o : Option ℕ) → From 1 o → Earlier (earlier name a qs) → Earlier (cond b (earlier name a qs) (place_or m.file o (earlier name a qs)))
+      go true o h ih = ih
+      go false None h ih = ih
+      go false (Some l) h ih = (q.0.0, (q.0.1, h))
 
-  at_each : (f l : ℕ) (p : Place) → 1 ≤ f → f ≤ n → 1 ≤ l → Earlier p → Each P (shared_at (place f l) p)
+  at_each : (f l : ℕ) (p : Option Place) → 1 ≤ f → f ≤ n → 1 ≤ l → Earlier p → Each P (shared_at (place f l) p)
   unfolding Each
-  at_each f l p a b c e = go (eqb p.line 0) refl
-    where
-      go : (q : Bool) → eqb p.line 0 ≡ q → Each P (cond q [] (SharedAnchor (place f l) p ∷ []))
-      go true q = tt
-      go false q = let z = eqb-false p.line 0 q in (h.shared f l p.file p.line a b c (e z).0 (e z).1 (omega (arith, z)), tt)
+  at_each f l None a b c e = tt
+  at_each f l (Some p) a b c e = (h.shared f l p.file p.line a b c e.0 e.1.0 e.1.1, tt)
 
   line-each : (qs : List Prepared) (m : Prepared) (l : ℕ) (k : LineKind) (s : List ℕ) → AllKnown qs → Known m → 1 ≤ l → Each P (shared_line qs m l (record { kind = k; bytes = s }))
   unfolding Each

@@ -1,4 +1,5 @@
 -- Laws of `specs/Earlier.antt` on the lines of one member: lines that are no headings, and the next heading. Assumes nothing.
+use Rattle.std.specs.Prelude.{Some, None}
 use Prim.Native.Nat.{ℕ, suc, ◌+◌, ◌≤◌, zero-le}
 use native.Mathlib.Nat.{add-zero}
 use native.Mathlib.Omega.{arith}
@@ -45,7 +46,7 @@ line_plain a n (t ∷ ps) ts p =
     rw (plain-bears a t.kind t.bytes p.0) (rw e at (line_plain a (n + 1) ps ts p.1))
 
 -- and nothing but those
-pub line-none : (a : List ℕ) (n : ℕ) (ts : List Told) → Plain ts → line_of a n ts ≡ 0
+pub line-none : (a : List ℕ) (n : ℕ) (ts : List Told) → Plain ts → line_of a n ts ≡ None
 unfolding line_of
 line-none a n ts p = rw (append-nil ts) at (line_plain a n ts [] p)
 
@@ -54,14 +55,14 @@ module _ {s : List ℕ} {c : LineCursor} {n p q : ℕ} {d : LineCursor} (h : IsH
   pub number : c.line + 1 + length h.passed ≡ d.line
   number = omega (arith, h.count)
 
-  line-next : (a : List ℕ) → line_of a (c.line + 1) (left_of c s) ≡ cond (equals a (slug (part p q s))) d.line (line_of a (d.line + 1) (left_of d s))
+  line-next : (a : List ℕ) → line_of a (c.line + 1) (left_of c s) ≡ cond (equals a (slug (part p q s))) (Some d.line) (line_of a (d.line + 1) (left_of d s))
   unfolding line_of
   line-next a =
       ap (line_of a (c.line + 1)) h.left
       ∙ line_plain a (c.line + 1) h.passed (record { kind = Heading n h.start h.end; bytes = h.line } ∷ left_of d s) h.plain
       ∙ rw (number, h.text)
 
-  pub line_hit : (a : List ℕ) → equals a (slug (part p q s)) ≡ true → line_of a (c.line + 1) (left_of c s) ≡ d.line
+  pub line_hit : (a : List ℕ) → equals a (slug (part p q s)) ≡ true → line_of a (c.line + 1) (left_of c s) ≡ Some d.line
   line_hit a e = line-next a ∙ rw e
 
   pub line_miss : (a : List ℕ) → equals a (slug (part p q s)) ≡ false → line_of a (c.line + 1) (left_of c s) ≡ line_of a (d.line + 1) (left_of d s)

@@ -1,5 +1,5 @@
 -- Laws of a member that is compared: the table of marks that is lent and comes back, and the walk of its headings. Assumes nothing.
-use Rattle.std.specs.Prelude.{Some, Option}
+use Rattle.std.specs.Prelude.{Option, Some, None}
 use Prim.Native.Nat.{ℕ, ◌+◌, ◌-◌, ◌≤◌, ◌<◌}
 use native.Mathlib.Nat.{zero-add}
 use native.Mathlib.Omega.{arith}
@@ -8,7 +8,6 @@ use mathlib.Core.Bool.{Bool, false}
 use mathlib.Core.List.{List, [], ◌++◌, append_assoc}
 use lib.ListN.{length, take, drop, length-append, length-drop}
 use lib.Seq.{take_at, drop_at, length-take-le}
-use borrow.Author.Tests.{eq-eqb, ne_eqb}
 use Rattle.member.specs.declared.lines.KeptHeading.{KeptHeading}
 use Rattle.answer.specs.Answer.{place}
 use Rattle.answer.specs.declared.Place.{Place}
@@ -125,7 +124,7 @@ module _ {index contents set : List ℕ} {i table stop : ℕ} {w₀ : List ℕ} 
           ∙ part-text text contents w₀ p q text-lies.0 h.within head is-head
 
       -- where it has its anchor before
-      abbrev pub second : Place
+      abbrev pub second : Option Place
       second = earlier (name_of index (member_at set i)) (slug (part p q (source_text text contents w₀))) (prepared_from index contents w₀ set 0 i)
 
       module _ {number : ℕ} (is_number : number ≡ anchor_number (slug (source_text head contents w))) {y : List ℕ} {maybe : Bool} (m : Marks (part table stop w) y number file maybe) where
@@ -145,10 +144,9 @@ module _ {index contents set : List ℕ} {i table stop : ℕ} {w₀ : List ℕ} 
         next-table = back_part w y table stop (omega arith) (omega (arith, x.long)) lent
 
         -- the table spares the search, or it finds a place
-        pub second-alone : maybe ≡ false → second.line ≡ 0
+        pub second-alone : maybe ≡ false → second ≡ None
         second-alone e =
-            ap (λ (r : Place). r.line)
-            (earlier-none
+            earlier-none
             all
             contents
             w₀
@@ -160,14 +158,14 @@ module _ {index contents set : List ℕ} {i table stop : ℕ} {w₀ : List ℕ} 
             0
             i
             (omega arith)
-            x.tells)
+            x.tells
 
-        pub second-found : (r : Place)
+        pub second-found : (r : Option Place)
             → r ≡ earlier (name_of index (member_at set i)) (slug (source_text head contents (backed w y table stop))) (prepared_from index contents (backed w y table stop) set 0 i)
             → r ≡ second
         second-found r e = e ∙ rw (head-text (backed w y table stop) next-same, prepared_up contents (backed w y table stop) w₀ 0 i (omega arith) all next-same)
 
-        pub walk-next : second.line ≡ 0 → Walked index contents set i table stop w₀ file text (backed w y table stop) d
+        pub walk-next : second ≡ None → Walked index contents set i table stop w₀ file text (backed w y table stop) d
         walk-next e = record {
           file-is = x.file-is;
           text-is = x.text-is;
@@ -183,17 +181,17 @@ module _ {index contents set : List ℕ} {i table stop : ℕ} {w₀ : List ℕ} 
           left =
               x.left
               ∙ shared_next h (prepared_from index contents w₀ set 0 i) (prepared_in index contents w₀ (member_at set i))
-              ∙ rw (eq-eqb second.line 0 e);
+              ∙ rw e;
         }
           where
             one : 1 ≤ file
             one = rw x.file-is (all.stand i (omega arith)).lies.first
 
-        pub walk_hit : (r : Place) → r ≡ second → (r.line ≡ 0 → ⊥)
+        pub walk_hit : (r : Place) → Some r ≡ second
             → SharedOf (shared_in (prepared_from index contents w₀ set 0 i) (prepared_in index contents w₀ (member_at set i)) 1 (prepared_in index contents w₀ (member_at set i)).lines) (Some ((place file d.line), r))
-        walk_hit r e z = (
+        walk_hit r e = (
           shared_in (prepared_from index contents w₀ set 0 i) (prepared_in index contents w₀ (member_at set i)) (d.line + 1) (left_of d (source_text text contents w₀)),
           x.left
               ∙ shared_next h (prepared_from index contents w₀ set 0 i) (prepared_in index contents w₀ (member_at set i))
-              ∙ rw (← e, ne_eqb r.line 0 z, x.file-is),
+              ∙ rw (← e, x.file-is),
         )

@@ -1,4 +1,5 @@
 -- Laws of `specs/Shared.antt` and `specs/Tells.antt` on the lines of one member: lines that are no headings, and the next heading. Assumes nothing.
+use Rattle.std.specs.Prelude.{None}
 use Prim.Native.Nat.{ℕ, suc, ◌+◌}
 use native.Mathlib.Nat.{add-zero}
 use native.Mathlib.Omega.{arith}
@@ -88,7 +89,7 @@ kind-none t a file (Heading n b e) l h m = go (equals a (slug (part b e l))) ref
     go false q = refl
 kind-none t a file Other l h m = refl
 
-pub lines_none : (t a : List ℕ) (file n : ℕ) (ts : List Told) → (Marked t (anchor_number a) file → ⊥) → TellsLines t file ts → line_of a n ts ≡ 0
+pub lines_none : (t a : List ℕ) (file n : ℕ) (ts : List Told) → (Marked t (anchor_number a) file → ⊥) → TellsLines t file ts → line_of a n ts ≡ None
 unfolding TellsLines line_of
 lines_none t a file n [] h m = refl
 lines_none t a file n (x ∷ ts) h m = rw (kind-none t a file x.kind x.bytes h m.0) (lines_none t a file (n + 1) ts h m.1)

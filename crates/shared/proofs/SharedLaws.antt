@@ -92,17 +92,17 @@ module _ {index contents set : List ℕ} {count table stop : ℕ} {w₀ w : List
           ∙ ap (λ (qs : List Prepared). shared_from qs (prepared_from index contents w₀ set (i + 1) (count - (i + 1)))) (sym more);
     }
 
-    pub turn_found : (p q : Place)
-        → SharedOf (shared_in (prepared_from index contents w set 0 i) (prepared_in index contents w (member_at set i)) 1 (prepared_in index contents w (member_at set i)).lines) (Some (p, q))
-        → SharedOf (shared_from [] (prepared_from index contents w₀ set 0 count)) (Some (p, q))
-    turn_found p q f = (
+    pub turn_found : {r : Place × Place}
+        → SharedOf (shared_in (prepared_from index contents w set 0 i) (prepared_in index contents w (member_at set i)) 1 (prepared_in index contents w (member_at set i)).lines) (Some r)
+        → SharedOf (shared_from [] (prepared_from index contents w₀ set 0 count)) (Some r)
+    turn_found {r} f = (
       f.0 ++ shared_from (prepared_from index contents w₀ set 0 i ++ (prepared_in index contents w₀ (member_at set i) ∷ [])) (prepared_from index contents w₀ set (i + 1) (count - (i + 1))),
       left_at
           ∙ from_some
           (prepared_from index contents w₀ set 0 i)
           (prepared_in index contents w₀ (member_at set i))
           (prepared_from index contents w₀ set (i + 1) (count - (i + 1)))
-          (SharedAnchor p q)
+          (SharedAnchor r.0 r.1)
           f.0
           (sym found-is ∙ f.1),
     )

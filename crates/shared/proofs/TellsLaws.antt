@@ -1,10 +1,10 @@
 -- Laws of what the table of marks tells of earlier members. Assumes nothing.
+use Rattle.std.specs.Prelude.{None}
 use Prim.Native.Nat.{ℕ, zero, suc, ◌+◌, ◌≤◌, ◌<◌}
 use native.Mathlib.Omega.{arith}
 use mathlib.Core.Path.{◌≡◌, refl, ◌∙◌}
 use mathlib.Core.Bool.{Bool, true, false}
 use mathlib.Core.List.{List, [], ◌∷◌, ◌++◌}
-use Rattle.answer.specs.Answer.{place}
 use Rattle.text.specs.Bytes.{part}
 use Rattle.text.specs.Pattern.{equals}
 use Rattle.text.proofs.PatternLaws.{equals-drop}
@@ -62,15 +62,15 @@ module _ {index set : List ℕ} {n limit stop count : ℕ} (all : AllStand index
         omega arith
 
     pub earlier-none : (q k : ℕ) → q + k ≤ count → Tells t (prepared_from index contents work set q k)
-        → earlier (name_of index (member_at set i)) a (prepared_from index contents work set q k) ≡ place 0 0
+        → earlier (name_of index (member_at set i)) a (prepared_from index contents work set q k) ≡ None
     unfolding Tells prepared_from earlier
     earlier-none q zero h e = refl
     earlier-none q (suc k) h e =
         go (earlier-none (q + 1) k (omega arith) e.1) (equals (name_of index (member_at set i)) (name_of index (member_at set q))) refl
       where
-        go : earlier (name_of index (member_at set i)) a (prepared_from index contents work set (q + 1) k) ≡ place 0 0
+        go : earlier (name_of index (member_at set i)) a (prepared_from index contents work set (q + 1) k) ≡ None
             → (b : Bool) → equals (name_of index (member_at set i)) (name_of index (member_at set q)) ≡ b
-            → earlier (name_of index (member_at set i)) a (prepared_in index contents work (member_at set q) ∷ prepared_from index contents work set (q + 1) k) ≡ place 0 0
+            → earlier (name_of index (member_at set i)) a (prepared_in index contents work (member_at set q) ∷ prepared_from index contents work set (q + 1) k) ≡ None
         go r true x =
             earlier-own (name_of index (member_at set i)) a (prepared_in index contents work (member_at set q)) (prepared_from index contents work set (q + 1) k) x ∙ r
         go r false x =

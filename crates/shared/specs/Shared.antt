@@ -1,5 +1,5 @@
 -- Document 01, "Assembly and book": members compared, 19.
-use Rattle.std.specs.Prelude.{ℕ, ◌+◌, cond, List, [], ◌∷◌, ◌++◌, eqb}
+use Rattle.std.specs.Prelude.{ℕ, ◌+◌, List, [], ◌∷◌, ◌++◌, Option, Some, None}
 use Rattle.answer.specs.Answer.{place}
 use Rattle.answer.specs.declared.Place.{Place}
 use Rattle.answer.specs.declared.Refusal.{Refusal}
@@ -13,8 +13,9 @@ use Rattle.member.specs.Member.{Prepared}
 use Rattle.earlier.specs.Earlier.{earlier}
 
 -- 19 "anchor also in an earlier member of another name; second place is that one's", for each heading; the lines count from n
-abbrev pub shared_at : Place → Place → List Refusal
-shared_at p q = cond (eqb q.line 0) [] (SharedAnchor p q ∷ [])
+abbrev pub shared_at : Place → Option Place → List Refusal
+shared_at p (Some q) = SharedAnchor p q ∷ []
+shared_at p None = []
 
 abbrev pub shared_line : List Prepared → Prepared → ℕ → Told → List Refusal
 shared_line qs m n t = elim t.kind [ Quoted ↦ [] | Heading k b e ↦ shared_at (place m.file n) (earlier m.name (slug (part b e t.bytes)) qs) | Other ↦ [] ]

@@ -1,5 +1,6 @@
 -- What the table of marks tells of members, and what the functions find. Nothing here is document 01's: functions promise it.
 use Rattle.std.specs.Prelude.{◌≡◌, List, [], ◌∷◌, ℕ, Option, Some, None}
+use Rattle.answer.specs.declared.Place.{Place}
 use Rattle.answer.specs.declared.Refusal.{Refusal}
 use Rattle.answer.specs.declared.Refusal.TheVariants.{SharedAnchor}
 use Rattle.text.specs.Bytes.{part}

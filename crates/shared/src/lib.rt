@@ -9,9 +9,6 @@ ghost use Rattle.shared.specs.Tells.{Tells, TellsAfter, SharedOf};
 
 use answer::Place;
 use member::lines;
-use member::lines::KeptHeading;
-
-mod read;
 
 // The first heading of member i whose anchor an earlier member of another name has. The table of marks stands in the work buffer from a place up to another.
 fn compare_member(
@@ -31,33 +28,25 @@ fn compare_member(
     ensures tells_after { TellsAfter result (part table stop work.new) (prepared_from index.now contents.now work.old set.now 0 (i + 1)) }
     ensures work_unchanged { take table work.new ≡ take table work.old }
 {
-    let m = members::member_at(set, i);
-    let file = m.file;
-    let text = members::text_of(m);
-    let mut c = lines::first();
-    loop {
-        let Some(
-            KeptHeading {
-                level: _,
-                start,
-                end,
-                behind,
-            },
-        ) = earlier::read::heading_in(contents, work, text, c)
-        else {
-            return None;
-        };
-        let heading = put::part_of(text, start, end);
-        let number = read::number_in(contents, work, heading);
-        if marks::mark_anchor(&mut work[table..stop], number, file) {
-            let second = earlier::earlier(index, contents, work, set, i, heading, table);
-            if second.line != 0 {
-                let line = behind.line;
-                return Some((Place { file, line }, second));
+    let member = members::member_at(set, i);
+    let source = members::text_of(member);
+    let mut cursor = lines::first();
+    while let Some(found) = lines::next_heading(source.bytes(contents, work), cursor) {
+        let heading = put::part_of(source, found.start, found.end);
+        let number = anchor::number_of(heading.bytes(contents, work));
+        if marks::mark_anchor(&mut work[table..stop], number, member.file) {
+            let text = heading.bytes(contents, work);
+            if let Some(second) = earlier::earlier(index, contents, work, set, i, text, table) {
+                let first = Place {
+                    file: member.file,
+                    line: found.behind.line,
+                };
+                return Some((first, second));
             }
         }
-        c = behind;
+        cursor = found.behind;
     }
+    None
 }
 
 // The first heading of all members whose anchor an earlier member of another name has. The table of marks is made in the work buffer from a place up to another.
@@ -75,13 +64,10 @@ pub fn compare(
     ensures work_unchanged { take table work.new ≡ take table work.old }
 {
     buffer::clear(&mut work[table..stop]);
-    let mut i = 0;
-    while i < count {
-        let found = compare_member(index, contents, set, i, table, stop, work);
-        if let Some((_, _)) = found {
-            return found;
+    for i in 0..count {
+        if let Some(found) = compare_member(index, contents, set, i, table, stop, work) {
+            return Some(found);
         }
-        i += 1;
     }
     None
 }

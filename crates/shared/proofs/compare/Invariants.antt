@@ -1,10 +1,6 @@
 -- `compare` meets its contract. The invariant: the members before member i are compared, and the table tells of them. Assumes nothing.
-use Prim.Native.Nat.{◌-◌}
 use Rattle.shared.proofs.SharedLaws.{Compared}
 use Rattle.shared.proofs.compare.Given as goal
 
 abbrev pub invariant-loop-i : goal.invariant-loop-i
 invariant-loop-i l = Compared l.index l.contents l.set l.count l.table l.stop l.initial.work l.work l.i
-
-abbrev pub decreases-loop-i : goal.decreases-loop-i
-decreases-loop-i l = l.count - l.i

@@ -5,8 +5,8 @@ use Rattle.put.specs.Put.{source_text}
 use Rattle.shared.proofs.CompareLaws.{Walked}
 use Rattle.shared.proofs.compare_member.Given as goal
 
-abbrev pub invariant-loop-start : goal.invariant-loop-start
-invariant-loop-start l = Walked l.index l.contents l.set l.i l.table l.stop l.initial.work l.file l.text l.work l.c
+abbrev pub invariant-loop-found : goal.invariant-loop-found
+invariant-loop-found l = Walked l.index l.contents l.set l.i l.table l.stop l.initial.work l.member.file l.source l.work l.cursor
 
-abbrev pub decreases-loop-start : goal.decreases-loop-start
-decreases-loop-start l = suc (length (source_text l.text l.contents l.initial.work)) - l.c.at
+abbrev pub decreases-loop-found : goal.decreases-loop-found
+decreases-loop-found l = suc (length (source_text l.source l.contents l.initial.work)) - l.cursor.at
