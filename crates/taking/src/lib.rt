@@ -56,8 +56,7 @@ pub fn after(got: Result<Answer, Refusal>, behind: HostCursor) -> Stand
             len: length,
             used: files,
         },
-        Ok(Answer::NoRegion) => Stand::Done(Ok(Answer::NoRegion)),
-        Err(refusal) => Stand::Done(Err(refusal)),
+        _ => Stand::Done(got),
     }
 }
 
@@ -78,33 +77,29 @@ pub fn take_in(
         (read_filled got (drop at.limit work.old)) }
     ensures filled_within { FilledWithin result at.limit }
 {
-    let a = row.name;
-    let e = row.end;
-    match got {
-        Ok(Answer::Accepted { length, files }) => {
-            let limit = at.limit;
-            let kept = embedding::drop_markers(&mut work[limit..], length);
+    let name = &index[row.name..row.end];
+    match got? {
+        Answer::Accepted { length, files } => {
+            let kept = embedding::drop_markers(&mut work[at.limit..], length);
             let source = Source {
                 work: true,
-                start: limit,
-                end: limit + kept,
+                start: at.limit,
+                end: at.limit + kept,
             };
-            filling::with_files(
-                insertion::insert(contents, source, host, &index[a..e], at, work),
-                files,
-            )
+            let length = insertion::insert(contents, source, host, name, at, work)?;
+            Ok(Answer::Accepted { length, files })
         }
-        Ok(Answer::NoRegion) => {
+        Answer::NoRegion => {
             let source = Source {
                 work: false,
                 start: row.start,
                 end: row.start + row.size,
             };
-            filling::with_files(
-                insertion::insert(contents, source, host, &index[a..e], at, work),
-                used,
-            )
+            let length = insertion::insert(contents, source, host, name, at, work)?;
+            Ok(Answer::Accepted {
+                length,
+                files: used,
+            })
         }
-        Err(refusal) => Err(refusal),
     }
 }
