@@ -1,5 +1,6 @@
 -- Members that are prepared, for the functions. Nothing here is document 01's: functions promise it, and the laws of `proofs/` tie it to the walk.
 use Rattle.std.specs.Prelude.{ℕ, ◌≤◌, ◌<◌, ◌≡◌, List, Result, Ok, Err}
+use Rattle.answer.specs.declared.Refusal.{Refusal}
 use Rattle.walk.specs.Steps.{failed}
 use Rattle.put.specs.Put.{Inside}
 use Rattle.members.specs.Members.{member_at, files_from, AllKnown}

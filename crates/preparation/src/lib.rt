@@ -7,13 +7,6 @@ ghost use Rattle.preparation.specs.Preparation.{CanPrepare, ReadyOf};
 use answer::Refusal;
 use members::Member;
 
-mod read;
-
-// Does nothing: that an array has all its elements is known of a value, and not behind a reference.
-fn whole(set: [usize; 704])
-    ensures { length set ≡ 704 }
-{}
-
 // Prepares all members.
 pub fn prepare_all(
     contents: &[u8],
@@ -24,24 +17,11 @@ pub fn prepare_all(
     requires { CanPrepare (length contents.now) (length work.now) set.old count }
     ensures { ReadyOf contents.now work.now set.old set.new count result }
 {
-    whole(*set);
-    let mut i = 0;
-    while i < count {
-        let m = members::member_at(set, i);
-        let source = m.source;
-        let file = m.file;
-        let Some(outline) = read::prepare_in(contents, work, source) else {
-            return Err(Refusal::NoTitle(file));
-        };
-        let name = m.name;
-        let prepared = Member {
-            name,
-            file,
-            source,
-            outline,
-        };
-        members::put_member(set, i, prepared);
-        i += 1;
+    for i in 0..count {
+        let member = members::member_at(set, i);
+        let text = member.source.bytes(contents, work);
+        let outline = outline::prepare(text).ok_or(Refusal::NoTitle(member.file))?;
+        members::put_member(set, i, Member { outline, ..member });
     }
     Ok(())
 }

@@ -1,34 +1,22 @@
 -- `prepare_all` meets its contract. Assumes nothing.
+use Rattle.std.specs.Prelude.{◌≡◌, Some, None, Err}
 use native.Mathlib.Omega.{arith}
-use mathlib.Core.Path.{ap, ◌∙◌}
-use lib.ListN.{length}
-use Rattle.members.proofs.MembersLaws.{put-length}
-use Rattle.preparation.proofs.PrepareLaws.{far_start, far_end, read_inside, read_stops, read_next}
+use Rattle.answer.specs.declared.Refusal.TheVariants.{NoTitle}
+use Rattle.preparation.proofs.PrepareLaws.{read_stops, read_next}
 use Rattle.preparation.proofs.prepare_all.Goals as goal
 
-pub loop-i-init : goal.loop-i-init
-loop-i-init c = (omega arith, (c.whole.ensures, far_start _ _ _ _))
-
-pub member_at-m-requires : goal.member_at-m-requires
-member_at-m-requires c = omega (arith, c.requires.few)
-
-pub prepare_in-requires : goal.prepare_in-requires
-prepare_in-requires c = let s = c in read_inside c.loop-i.invariant.1.1 c.loop-i-test.true c.member_at-m.result c.member_at-m.ensures (length s.args.contents.now) (length s.args.work.now) s.requires
-
-pub returns-in_default : goal.returns-in_default
-returns-in_default c = read_stops c.loop-i.invariant.1.1 c.loop-i-test.true c.member_at-m.result c.member_at-m.ensures (rw c.in_default.is at c.prepare_in.ensures)
-
-pub put_member-requires : goal.put_member-requires
-put_member-requires c = omega (arith, c.requires.few)
-
-pub overflow_add-i : goal.overflow_add-i
-overflow_add-i c = omega (arith, c.requires.few)
-
-pub loop-i-smaller : goal.loop-i-smaller
-loop-i-smaller c = omega arith
+pub returns-in_err-outline : goal.returns-in_err-outline
+returns-in_err-outline c =
+    let m = c.member_at-member in
+    let e : c.prepare.result ≡ None = grind arith in
+    let r : c.from_residual.result ≡ Err (NoTitle m.result.file) = grind arith in
+    rw r (read_stops c.loop-i.invariant.1 c.loop-i-test.true m.result m.ensures (rw (e, c.bytes-text.ensures.text) at c.prepare.ensures))
 
 pub loop-i-preserved : goal.loop-i-preserved
-loop-i-preserved c = (omega arith, (ap length c.put_member.ensures ∙ simp put-length c.loop-i.invariant.1.0, read_next c.loop-i.invariant.1.1 c.loop-i-test.true c.member_at-m.result c.member_at-m.ensures c.in-Some.outline c.loop-i.invariant.1.0 c.requires.few (rw c.in-Some.is at c.prepare_in.ensures) c.put_member.new.set c.put_member.ensures))
-
-pub returns : goal.returns
-returns c = far_end c.loop-i.invariant.1.1 c.loop-i-test.false
+loop-i-preserved c =
+    let m = c.member_at-member in
+    let e : c.prepare.result ≡ Some c.in_ok-outline.outline = grind arith in (
+      omega arith,
+      read_next c.loop-i.invariant.1 c.loop-i-test.true m.result m.ensures c.in_ok-outline.outline c.loop-i.invariant.0 c.requires.few
+          (rw (e, c.bytes-text.ensures.text) at c.prepare.ensures) c.put_member.new.set c.put_member.ensures,
+    )
