@@ -30,17 +30,10 @@ module _ (name a : List ℕ) (q : Prepared) (qs : List Prepared) where
   unfolding earlier
   earlier_with e n z = rw (e, z)
 
--- what is known of a member that was read
-pub stands_at : {index set : List ℕ} {n limit stop count : ℕ} → AllStand index n limit stop set count → (q : ℕ) → q < count → {m : Member} → m ≡ member_at set q → Stands (length index) n limit stop m
-stands_at all q h e = rw e (all.stand q h)
-
 -- the members before member q have not the anchor
 pub record Searched (index contents work set a : List ℕ) (i q : ℕ) : Type 0 where
   pub same : earlier (name_of index (member_at set i)) a (prepared_from index contents work set 0 i)
       ≡ earlier (name_of index (member_at set i)) a (prepared_from index contents work set q (i - q))
-
-pub search_start : (index contents work set a : List ℕ) (i : ℕ) → Searched index contents work set a i 0
-search_start index contents work set a i = record { same = rw (sub-zero i) }
 
 module _ {index contents work set a : List ℕ} {i q : ℕ} (s : Searched index contents work set a i q) where
   pub search_end : i ≤ q → None ≡ earlier (name_of index (member_at set i)) a (prepared_from index contents work set 0 i)

@@ -6,6 +6,7 @@ use mathlib.Core.List.{List, ◌++◌}
 use lib.IntN.{ℤ}
 use lib.ListN.{take}
 use Rattle.answer.specs.Answer.{place}
+use Rattle.answer.specs.declared.Refusal.{Refusal}
 use Rattle.answer.specs.declared.Refusal.TheVariants.{HeadingLevel}
 use Rattle.put.specs.Put.{source_text, Wrote}
 use Rattle.put.specs.declared.Source.{Source}

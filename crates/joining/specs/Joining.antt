@@ -1,6 +1,7 @@
 -- Members that are joined, for the functions. Nothing here is document 01's: functions promise it, and the laws of `proofs/` tie it to the walk.
 use Rattle.std.specs.Prelude.{ℕ, ◌+◌, ◌≤◌, ◌<◌, zero, suc, ◌≡◌, List, [], ◌∷◌, length, take, drop, Option, Some, None, Result, Ok, Err}
 use Rattle.answer.specs.Answer.{place}
+use Rattle.answer.specs.declared.Refusal.{Refusal}
 use Rattle.answer.specs.declared.Refusal.TheVariants.{TextLimit}
 use Rattle.text.specs.Lines.{LF}
 use Rattle.text.specs.Split.{join}

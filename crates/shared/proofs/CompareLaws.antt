@@ -87,9 +87,6 @@ module _ {index contents set : List ℕ} {i table stop : ℕ} {w₀ : List ℕ} 
   text_same : (v : List ℕ) → take table v ≡ take table w₀ → source_text text contents v ≡ source_text text contents w₀
   text_same v e = source_up text 0 (length contents) table contents v w₀ text-lies e
 
-  pub walk_inside : CursorIn c (source_text text contents w)
-  walk_inside = rw (text_same w x.same) x.inside
-
   pub walk-found : (r : Option KeptHeading) → FoundHeading (source_text text contents w) c r → FoundHeading (source_text text contents w₀) c r
   walk-found r h = rw (text_same w x.same) at h
 

@@ -16,9 +16,6 @@ use Rattle.members.proofs.MembersLaws.{prepared_more, prepared_at, prepared_end,
 use Rattle.shared.specs.Shared.{shared_in, shared_from}
 use Rattle.shared.specs.Tells.{Tells, SharedOf}
 
-pub stand-first : {index set : List ℕ} {n limit stop count : ℕ} → AllStand index n limit stop set count → (k : ℕ) → k ≤ count → AllStand index n limit stop set k
-stand-first all k h = record { few = omega (arith, all.few); stand = λ i j. all.stand i (omega arith); same = λ i j a b. all.same i j (omega arith) (omega arith) }
-
 -- refusals of members in order, by the first member
 module _ (qs : List Prepared) (m : Prepared) (ms : List Prepared) where
   pub from-none : shared_in qs m 1 m.lines ≡ [] → shared_from qs (m ∷ ms) ≡ shared_from (qs ++ (m ∷ [])) ms
