@@ -14,8 +14,7 @@ use Rattle.answer.specs.declared.Refusal.TheVariants.{NoTitle}
 use Rattle.index.specs.Index.{File}
 use Rattle.walk.specs.Parts.{Part, good, flawed}
 use Rattle.walk.specs.Steps.{done, failed, go}
-use Rattle.put.specs.Put.{source_text, Inside}
-use Rattle.put.specs.declared.Source.{Source}
+use Rattle.put.specs.Put.{source_text}
 use Rattle.member.specs.Member.{Prepared, prepared_lines, title_of, titled, prepare}
 use Rattle.outline.specs.Outline.{IsOutline}
 use Rattle.outline.specs.declared.Outline.{Outline}
@@ -23,7 +22,7 @@ use Rattle.members.specs.Members.{member_at, numbers_of, name_of, file_in, prepa
 use Rattle.members.specs.declared.Member.{Member}
 use Rattle.members.proofs.MembersLaws.{member_put_same, member_put_other, prepares, all_stand}
 use Rattle.assembled.specs.Assemble.{prepare_all}
-use Rattle.preparation.specs.Preparation.{CanPrepare, SameFile, ArePrepared}
+use Rattle.preparation.specs.Preparation.{SameFile, ArePrepared}
 
 module _ (index contents work old new : List ℕ) where
   -- all of n members from member i on are prepared
@@ -100,12 +99,6 @@ pub record SoFar (contents work old new : List ℕ) (i n : ℕ) : Type 0 where
   pub same : (k : ℕ) → k < n → SameFile (member_at old k) (member_at new k)
   pub known : AllKnown contents work new i
 
-pub far_start : (contents work set : List ℕ) (n : ℕ) → SoFar contents work set set 0 n
-far_start contents work set n = record { same = λ k h. record { name = refl; file = refl; source = refl }; known = record { known = λ k h. absurd (omega arith) } }
-
-pub far_end : {contents work old new : List ℕ} {i n : ℕ} → SoFar contents work old new i n → n ≤ i → ArePrepared contents work old new n
-far_end f h = record { same = f.same; known = record { known = λ k j. f.known.known k (omega arith) } }
-
 abbrev Outlines : List ℕ → List ℕ → Member → Type 0
 Outlines contents work m = IsOutline (source_text m.source contents work) m.outline
 
@@ -148,10 +141,6 @@ module _ {contents work old new : List ℕ} {i n : ℕ} (f : SoFar contents work
 
 -- the same by the member that was read
 module _ {contents work old new : List ℕ} {i n : ℕ} (f : SoFar contents work old new i n) (h : i < n) (m : Member) (e : m ≡ member_at new i) where
-  pub read_inside : (size room : ℕ) → CanPrepare size room old n → Inside m.source 0 size room
-  read_inside size room p =
-      subst (λ (s : Source). Inside s 0 size room) (sym (ap (λ (x : Member). x.source) e ∙ (f.same i h).source)) (p.inside i h)
-
   pub read_stops : title_of (prepared_lines (source_text m.source contents work)) ≡ None → (index : List ℕ) → prepare_all (files_from index contents work old 0 n) ≡ failed (NoTitle m.file)
   read_stops =
       subst (λ (x : Member). title_of (prepared_lines (source_text x.source contents work)) ≡ None → (index : List ℕ) → prepare_all (files_from index contents work old 0 n) ≡ failed (NoTitle x.file))
