@@ -19,12 +19,10 @@ fn has_trace(s: &[u8]) -> bool
     ensures { result ≡ any_three trace s.now }
 {
     let mut hit = false;
-    let mut j = 0;
-    while 2 < s.len() - j {
+    for j in 0..s.len().saturating_sub(2) {
         let x = s[j];
         let z = s[j + 2];
-        hit |= (((x == b'`') | (x == b'~')) | ((x ^ z) == 0x76));
-        j += 1;
+        hit |= (x == b'`') | (x == b'~') | ((x ^ z) == 0x76);
     }
     hit
 }
@@ -34,14 +32,11 @@ fn has_hint(s: &[u8]) -> bool
     ensures { result ≡ any_three hint s.now }
 {
     let mut hit = false;
-    let mut j = 0;
-    while 2 < s.len() - j {
+    for j in 0..s.len().saturating_sub(2) {
         let x = s[j];
         let y = s[j + 1];
         let z = s[j + 2];
-        hit |= ((x == y)
-            & (((x == z) & ((x == b'`') | (x == b'~'))) | ((x == b'-') & (z == b'['))));
-        j += 1;
+        hit |= (x == y) & (((x == z) & ((x == b'`') | (x == b'~'))) | ((x == b'-') & (z == b'[')));
     }
     hit
 }
@@ -58,18 +53,15 @@ fn skip_blocks(s: &[u8], from: usize) -> usize
     requires { from ≤ length s.now }
     ensures { (from ≤ result) × ((result ≤ length s.now) × (any_three hint (part from result s.now) ≡ false)) }
 {
-    let mut i = from;
-    while 66 <= s.len() - i {
-        let e = i + 66;
-        if block_has_hint(&s[i..e]) {
+    let blocks = (s.len() - from).saturating_sub(2) / 64;
+    for k in 0..blocks {
+        let i = from + 64 * k;
+        if block_has_hint(&s[i..i + 66]) {
             return i;
         }
-        i += 64;
     }
-    if has_hint(&s[i..]) {
-        return i;
-    }
-    s.len()
+    let rest = from + 64 * blocks;
+    if has_hint(&s[rest..]) { rest } else { s.len() }
 }
 
 // The next line to look at from place a on, where a line starts after n lines.
@@ -77,16 +69,16 @@ pub fn next_line(s: &[u8], a: usize, n: usize) -> Option<LineAt>
     requires { (a ≤ length s.now) × (n ≤ a) }
     ensures { Sought s.now a n result }
 {
-    let p = skip_blocks(s, a);
-    if p == s.len() {
+    let hint = skip_blocks(s, a);
+    if hint == s.len() {
         return None;
     }
-    let b = a + bytes::after_last(&s[a..p], b'\n');
-    let l = lines::line(s, b, p);
+    let start = a + bytes::after_last(&s[a..hint], b'\n');
+    let line = lines::line(s, start, hint);
     Some(LineAt {
-        number: n + bytes::count_byte(&s[a..b], b'\n') + 1,
-        start: b,
-        end: l.end,
-        next: l.next,
+        number: n + bytes::count_byte(&s[a..start], b'\n') + 1,
+        start,
+        end: line.end,
+        next: line.next,
     })
 }

@@ -7,7 +7,7 @@ use Rattle.scan.proofs.SkipLaws.{three_more, three-end}
 use Rattle.scan.proofs.seek.has_hint.Goals as goal
 
 pub loop-j-preserved : goal.loop-j-preserved
-loop-j-preserved c = (omega arith, three_more hint c.args.s.now c.loop-j.j c.loop-j.hit (omega arith) ∙ c.loop-j.invariant.1)
+loop-j-preserved c = three_more hint c.args.s.now c.loop-j.j c.loop-j.hit (omega arith) ∙ c.loop-j.invariant
 
 pub returns : goal.returns
-returns c = sym (three-end hint c.args.s.now c.loop-j.j c.loop-j.hit (omega arith)) ∙ c.loop-j.invariant.1
+returns c = sym (three-end hint c.args.s.now c.loop-j.j c.loop-j.hit (omega arith)) ∙ c.loop-j.invariant

@@ -10,12 +10,12 @@ use Rattle.text.proofs.BytesLaws.{part_length, last_block}
 use Rattle.scan.proofs.SkipLaws.{passed_all, passed-some}
 use Rattle.scan.proofs.seek.next_line.Goals as goal
 
-pub returns-then-p-s : goal.returns-then-p-s
-returns-then-p-s c = let a = c.args in let k = c.skip_blocks-p in
-    passed_all a.s.now a.a k.result c.if-p-s.true k.ensures.1.1
+pub returns-then-hint-s : goal.returns-then-hint-s
+returns-then-hint-s c = let a = c.args in let k = c.skip_blocks-hint in
+    passed_all a.s.now a.a k.result c.if-hint-s.true k.ensures.1.1
 
-pub line-l-requires : goal.line-l-requires
-line-l-requires c = let a = c.args in let k = c.skip_blocks-p in
+pub line-line-requires : goal.line-line-requires
+line-line-requires c = let a = c.args in let k = c.skip_blocks-hint in
     let m = part_length a.s.now a.a k.result in
     (omega arith, (k.ensures.1.0, last_block (is LF) a.s.now a.a k.result _ k.ensures.0 k.ensures.1.0 (ap (λ (r : ℕ). a.a + r) c.after_last.ensures.0)))
 
@@ -23,10 +23,10 @@ pub returns : goal.returns
 returns c =
     let s = c.args.s.now in
     let a = c.args.a in
-    let p = c.skip_blocks-p.result in
+    let p = c.skip_blocks-hint.result in
     let b = a + c.after_last.result in
-    let l = c.line-l in (
-      passed-some s a c.args.n p b c.count_byte.result l.result.end l.result.next c.skip_blocks-p.ensures.0 c.skip_blocks-p.ensures.1.1
+    let l = c.line-line in (
+      passed-some s a c.args.n p b c.count_byte.result l.result.end l.result.next c.skip_blocks-hint.ensures.0 c.skip_blocks-hint.ensures.1.1
           (ap (λ (r : ℕ). a + r) c.after_last.ensures.0) c.count_byte.ensures.0 (omega (arith, part_length s a p)) l.ensures.end_value.0 l.ensures.end_value.1,
       omega (arith, part_length s a b),
     )
