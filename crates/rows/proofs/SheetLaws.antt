@@ -3,11 +3,12 @@
 use Prim.Native.Nat.{ℕ, ◌+◌, ◌-◌, ◌≤◌, ◌<◌}
 use native.Mathlib.Numerals.{add-one}
 use native.Mathlib.Omega.{arith}
-use borrow.Author.Tests.{le-leb, lt-leb}
+use borrow.Author.Tests.{le-leb}
 use mathlib.Core.Path.{◌≡◌, refl, sym, ap, ◌∙◌}
-use mathlib.Core.List.{List, [], ◌∷◌, ◌++◌, append_assoc}
-use lib.ListN.{length, take, drop, get_or, set, length-append, drop_of_length-le}
-use lib.Seq.{sets, length-sets, drop-cons, get_or-take, length-take-le}
+use mathlib.Core.List.{List, [], ◌∷◌, ◌++◌, append_assoc, reverse}
+use Rattle.std.proofs.lemmas.List.{get_or-reverse, get_or_default}
+use lib.ListN.{length, drop, get_or, set, length-append, drop_of_length-le}
+use lib.Seq.{sets, length-sets, drop-cons}
 use Rattle.text.specs.Lines.{LF}
 use Rattle.buffer.specs.Decimal.{decimal}
 use Rattle.buffer.proofs.BufferLaws.{set_before, sets_append, sets_comm}
@@ -17,48 +18,36 @@ use Rattle.scan.specs.declared.event.Event.{Event}
 use Rattle.scan.specs.declared.event.Event.TheVariants.{OfSpan, OfRegion, OfProblem}
 use Rattle.rows.specs.declared.Places.{Places}
 
--- the first k fields from field i on, and from field k on
-cells_more : (fields : List ℕ) (k i : ℕ) → i < k → k ≤ length fields
-    → cells (drop i (take k fields)) ≡ 0x09 ∷ (decimal (get_or fields i 0) ++ cells (drop (i + 1) (take k fields)))
+-- the fields from field i on
+cells_more : (fields : List ℕ) (i : ℕ) → i < length fields → cells (drop i fields) ≡ 0x09 ∷ (decimal (get_or fields i 0) ++ cells (drop (i + 1) fields))
 unfolding cells
-cells_more fields k i h j =
-    let n : i < length (take k fields) = omega (arith, length-take-le k fields j) in
-    rw (drop-cons (take k fields) i 0 n, get_or-take k fields i 0 h, add-one)
-
-cells-none : (fields : List ℕ) (k : ℕ) → k ≤ length fields → cells (drop k (take k fields)) ≡ []
-unfolding cells
-cells-none fields k h =
-    let n : length (take k fields) ≤ k = omega (arith, length-take-le k fields h) in
-    rw (drop_of_length-le (take k fields) n)
+cells_more fields i h = rw (drop-cons fields i 0 h, add-one)
 
 -- behind the fields stands LF
-pub cells-last : (l fields : List ℕ) (k : ℕ) → k ≤ length fields → 0 < length l
-    → drop (length l - 1) (set l (length l - 1) LF) ≡ cells (drop k (take k fields)) ++ (LF ∷ [])
-cells-last l fields k h n =
+pub row-end : (l fields : List ℕ) → 0 < length l → drop (length l - 1) (set l (length l - 1) LF) ≡ cells (drop (length fields - 0) fields) ++ (LF ∷ [])
+unfolding cells
+row-end l fields n =
     let m : length l ≤ length l = omega arith in
-    set_before l (length l) LF n m
-    ∙ ap (λ (x : List ℕ). LF ∷ x) (drop_of_length-le l m)
-    ∙ ap (λ (x : List ℕ). x ++ (LF ∷ [])) (sym (cells-none fields k h))
+    let z : length fields ≤ length fields - 0 = omega arith in
+    rw (drop_of_length-le fields z) (set_before l (length l) LF n m ∙ ap (λ (x : List ℕ). LF ∷ x) (drop_of_length-le l m))
 
--- the field before field j stands before place i, where the others and LF stand, and then a tab before it
-pub cells-before : (l m fields : List ℕ) (k j i r : ℕ) → 0 < j → j ≤ k → k ≤ length fields → 0 < r → r ≤ length m
-    → drop r m ≡ decimal (get_or fields (j - 1) 0) ++ drop i l → drop i l ≡ cells (drop j (take k fields)) ++ (LF ∷ [])
-    → drop (r - 1) (set m (r - 1) 0x09) ≡ cells (drop (j - 1) (take k fields)) ++ (LF ∷ [])
-cells-before l m fields k j i r g h n o p d e =
-    let f : List ℕ = decimal (get_or fields (j - 1) 0) in
-    let b : List ℕ = cells (drop j (take k fields)) in
-    let q : j ≡ j - 1 + 1 = omega arith in
+-- the field before the last n fields stands before place i, where those and LF stand, and then a tab before it
+pub row-field : (l m fields : List ℕ) (n i r x : ℕ) → n < length fields → x ≡ get_or (reverse fields) n x → 0 < r → r ≤ length m
+    → drop r m ≡ decimal x ++ drop i l → drop i l ≡ cells (drop (length fields - n) fields) ++ (LF ∷ [])
+    → drop (r - 1) (set m (r - 1) 0x09) ≡ cells (drop (length fields - (n + 1)) fields) ++ (LF ∷ [])
+row-field l m fields n i r x h f o p d e =
+    let j : ℕ = length fields - (n + 1) in
+    let k : length fields - 1 - n ≡ j = omega arith in
+    let q : length fields - n ≡ j + 1 = omega arith in
+    let y : x ≡ get_or fields j 0 = f ∙ get_or-reverse fields n x h ∙ ap (λ (z : ℕ). get_or fields z x) k ∙ get_or_default fields j x 0 (omega arith) in
     set_before m r 0x09 o p
-    ∙ ap (λ (x : List ℕ). 0x09 ∷ x) (d ∙ ap (λ (x : List ℕ). f ++ x) e ∙ sym (append_assoc f b (LF ∷ [])))
-    ∙ ap (λ (y : ℕ). 0x09 ∷ (f ++ cells (drop y (take k fields)) ++ (LF ∷ []))) q
-    ∙ ap (λ (x : List ℕ). x ++ (LF ∷ [])) (sym (cells_more fields k (j - 1) (omega arith) n))
+    ∙ ap (λ (z : List ℕ). 0x09 ∷ z) (d ∙ ap (λ (z : List ℕ). decimal x ++ z) (e ∙ ap (λ (z : ℕ). cells (drop z fields) ++ (LF ∷ [])) q) ∙ sym (append_assoc (decimal x) (cells (drop (j + 1) fields)) (LF ∷ [])))
+    ∙ ap (λ (z : ℕ). 0x09 ∷ (decimal z ++ cells (drop (j + 1) fields) ++ (LF ∷ []))) y
+    ∙ ap (λ (z : List ℕ). z ++ (LF ∷ [])) (sym (cells_more fields j (omega arith)))
 
 -- bytes go where they fit
 pub put_fitting : (a : ℕ) (b out : List ℕ) → a + length b ≤ length out → put_at a b out ≡ sets out a b
 put_fitting a b out h = rw (le-leb (a + length b) (length out) h)
-
-pub put-past : (a : ℕ) (b out : List ℕ) → length out < a + length b → put_at a b out ≡ out
-put-past a b out h = rw (lt-leb (a + length b) (length out) h)
 
 pub written-append : (a b : List Event) (t : Sheet) → written (a ++ b) t ≡ written b (written a t)
 unfolding written

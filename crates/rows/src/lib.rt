@@ -1,13 +1,12 @@
 #![tactic(auto)]
 
 // The rows of a listing, written into one buffer at three places, one a kind.
-ghost use Rattle.std.specs.Prelude.{◌≡◌, ◌≤◌, length, take, drop};
+ghost use Rattle.std.specs.Prelude.{◌≡◌, ◌≤◌, length, drop};
 ghost use Rattle.rows.specs.Row.{row_of, row as row_of_event};
 ghost use Rattle.rows.specs.Sheet.{add as add_to, put_at, sheet, write};
 
 use buffer::decimal;
-use scan::event::Event;
-use text::bytes;
+use scan::event::{Event, Region, Span};
 
 // Where the next span, region and problem go.
 #[derive(Clone, Copy)]
@@ -17,63 +16,49 @@ pub struct Places {
     pub problems: usize,
 }
 
-const TOP: usize = 18446744073709551615;
-
 // The sum, or the largest number where it is larger.
 pub fn add(a: usize, n: usize) -> usize
     ensures { result ≡ add_to a n }
 {
-    if n <= TOP - a { a + n } else { TOP }
+    a.saturating_add(n)
 }
 
-// Writes the row of a word and the first k fields at the end of a buffer, from its last byte to its first, and answers
+// Writes the row of a word and at most 5 fields at the end of a buffer, from its last byte to its first, and answers
 // where it starts. The longest has a word of 7 bytes, 5 fields of a tab and 20 digits each, and LF.
-fn format(row: &mut [u8], word: &[u8], fields: [usize; 5], k: usize) -> usize
-    requires { (length word.now ≤ 7) × ((k ≤ 5) × (113 ≤ length row.old)) }
-    ensures { (drop result row.new ≡ row_of word.now (take k fields)) × (result ≤ length row.old) }
+fn format(row: &mut [u8], word: &[u8], fields: &[usize]) -> usize
+    requires { (length word.now ≤ 7) × ((length fields.now ≤ 5) × (113 ≤ length row.old)) }
+    ensures { (drop result row.new ≡ row_of word.now fields.now) × (result ≤ length row.old) }
 {
-    let mut i = row.len() - 1;
-    row[i] = b'\n';
-    let mut j = k;
-    while 0 < j {
-        j -= 1;
-        i = decimal::put_before(row, i, fields[j]) - 1;
-        row[i] = b'\t';
+    let mut at = row.len() - 1;
+    row[at] = b'\n';
+    for field in fields.iter().rev() {
+        at = decimal::put_before(row, at, *field) - 1;
+        row[at] = b'\t';
     }
-    i -= word.len();
-    buffer::copy(word, row, i);
-    i
+    at -= word.len();
+    buffer::copy(word, row, at);
+    at
 }
 
 // Writes the row of an event so.
+#[tactic(auto, unfolding(crate::specs::Row::row))]
 fn format_event(row: &mut [u8], event: Event) -> usize
     requires { 113 ≤ length row.old }
     ensures { (drop result row.new ≡ row_of_event event) × (result ≤ length row.old) }
 {
     match event {
-        Event::OfSpan(x) => {
-            let spec = x.spec;
-            let text = x.text;
-            format(
-                row,
-                b"span",
-                [x.line, spec.start, spec.end, text.start, text.end],
-                5,
-            )
+        Event::OfSpan(Span { line, spec, text }) => {
+            let fields = [line, spec.start, spec.end, text.start, text.end];
+            format(row, b"span", &fields)
         }
-        Event::OfRegion(g) => {
-            let opener = g.opener;
-            let closer = g.closer;
-            let path = g.path;
-            let peer = bytes::bit(g.peer);
-            format(
-                row,
-                b"region",
-                [opener.line, closer.line, path.start, path.end, peer],
-                5,
-            )
+        Event::OfRegion(region) => {
+            let Region { opener, closer, .. } = region;
+            let path = region.path;
+            let peer = usize::from(region.peer);
+            let fields = [opener.line, closer.line, path.start, path.end, peer];
+            format(row, b"region", &fields)
         }
-        Event::OfProblem { line, number } => format(row, b"problem", [line, number, 0, 0, 0], 2),
+        Event::OfProblem { line, number } => format(row, b"problem", &[line, number]),
     }
 }
 
@@ -82,35 +67,31 @@ fn put_row(out: &mut [u8], at: usize, event: Event) -> usize
     ensures { (out.new ≡ put_at at (row_of_event event) out.old) × (result ≡ add_to at (length (row_of_event event))) }
 {
     let mut row = [0u8; 128];
-    let i = format_event(&mut row, event);
-    let n = 128 - i;
-    if n <= out.len() {
-        if at <= out.len() - n {
-            return buffer::copy(&row[i..], out, at);
-        }
+    let start = format_event(&mut row, event);
+    let n = 128 - start;
+    if n <= out.len() && at <= out.len() - n {
+        return buffer::copy(&row[start..], out, at);
     }
     add(at, n)
 }
 
 // Writes the row of an event at its kind's place if it fits there, and answers the places after it.
+#[tactic(auto, unfolding(crate::specs::Sheet::write))]
 pub fn put(out: &mut [u8], at: Places, event: Event) -> Places
     ensures { sheet result out.new ≡ write event (sheet at out.old) }
 {
     match event {
         Event::OfSpan(_) => Places {
             spans: put_row(out, at.spans, event),
-            regions: at.regions,
-            problems: at.problems,
+            ..at
         },
         Event::OfRegion(_) => Places {
-            spans: at.spans,
             regions: put_row(out, at.regions, event),
-            problems: at.problems,
+            ..at
         },
-        Event::OfProblem { line: _, number: _ } => Places {
-            spans: at.spans,
-            regions: at.regions,
+        Event::OfProblem { .. } => Places {
             problems: put_row(out, at.problems, event),
+            ..at
         },
     }
 }

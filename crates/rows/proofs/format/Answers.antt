@@ -1,82 +1,61 @@
--- `rows::format` meets its contract. The invariant: from i on stand the fields from j on and LF, and a field takes at most 21 bytes. Assumes nothing.
-use Prim.Native.Nat.{ℕ, ◌-◌}
-use mathlib.Core.Path.{◌≡◌, refl, ap, ◌∙◌}
-use mathlib.Core.List.{List, ◌++◌}
+-- `rows::format` meets its contract: each field from the last on is put, and a tab before it. Assumes nothing.
+use Prim.Native.Nat.{ℕ, ◌-◌, ◌<◌}
 use native.Mathlib.Omega.{arith}
-use lib.ListN.{length, get_or, length-set}
+use mathlib.Core.Path.{◌≡◌, ap, ◌∙◌}
+use mathlib.Core.List.{List, ◌++◌}
+use lib.ListN.{length, length-set}
+use Rattle.std.proofs.lemmas.List.{length-reverse, length_push}
+use Rattle.std.proofs.lemmas.Iterator.Adapters.{YieldsList-from_rev_slice}
+use Rattle.std.proofs.lemmas.Iterator.Consumers.{YieldsList-turn, YieldsList-end}
 use Rattle.buffer.proofs.BufferLaws.{drop_sets}
 use Rattle.buffer.proofs.DecimalLaws.{decimal_le}
-use Rattle.rows.proofs.SheetLaws.{cells-last, cells-before}
+use Rattle.rows.proofs.SheetLaws.{row-end, row-field}
 use Rattle.rows.proofs.format.Goals as goal
 
-pub overflow_sub-i : goal.overflow_sub-i
-overflow_sub-i c = omega arith
+pub loop-field-init : goal.loop-field-init
+loop-field-init c =
+    let n = length-set c.args.row.now (length c.args.row.now - 1) 0x0A in
+    (omega arith, (omega arith, (omega arith, row-end c.args.row.now c.args.fields.now (omega arith))))
 
-pub bounds-row-i : goal.bounds-row-i
-bounds-row-i c = omega arith
+pub put_before-at-requires : goal.put_before-at-requires
+put_before-at-requires c =
+    let t = YieldsList-turn (YieldsList-from_rev_slice c.args.fields.now cc) c.loop-field.yielded _ c.loop-field.yielded_by _ _ c.in-Some.field c.in-Some.is c.next.ensures.steps in
+    omega (arith, t.0, decimal_le c.in-Some.field.now, length-reverse c.args.fields.now, length-set c.args.row.now (length c.args.row.now - 1) 0x0A)
 
-pub loop-j-init : goal.loop-j-init
-loop-j-init c = let a = c.args in
-    let n = length-set a.row.now (length a.row.now - 1) 0x0A in
-    (omega arith, (omega arith, (omega arith, (refl, cells-last a.row.now a.fields a.k (omega arith) (omega arith)))))
+pub overflow_sub-at-in-loop-field : goal.overflow_sub-at-in-loop-field
+overflow_sub-at-in-loop-field c =
+    let t = YieldsList-turn (YieldsList-from_rev_slice c.args.fields.now cc) c.loop-field.yielded _ c.loop-field.yielded_by _ _ c.in-Some.field c.in-Some.is c.next.ensures.steps in
+    omega (arith, t.0, decimal_le c.in-Some.field.now, length-reverse c.args.fields.now, length-set c.args.row.now (length c.args.row.now - 1) 0x0A)
 
-pub overflow_sub-j : goal.overflow_sub-j
-overflow_sub-j c = omega arith
-
-pub offset_bounds-fields-j : goal.offset_bounds-fields-j
-offset_bounds-fields-j c = omega arith
-
-pub bounds-fields-j : goal.bounds-fields-j
-bounds-fields-j c = omega arith
-
-pub put_before-i-requires : goal.put_before-i-requires
-put_before-i-requires c = let a = c.args in
-    omega (arith, length-set a.row.now (length a.row.now - 1) 0x0A, decimal_le (get_or a.fields (c.loop-j.j - 1) 0))
-
-pub overflow_sub-i-in-loop-j : goal.overflow_sub-i-in-loop-j
-overflow_sub-i-in-loop-j c = let a = c.args in
-    omega (arith, length-set a.row.now (length a.row.now - 1) 0x0A, decimal_le (get_or a.fields (c.loop-j.j - 1) 0))
-
-pub bounds-row-i-in-loop-j : goal.bounds-row-i-in-loop-j
-bounds-row-i-in-loop-j c = let a = c.args in
-    omega (arith, length-set a.row.now (length a.row.now - 1) 0x0A, decimal_le (get_or a.fields (c.loop-j.j - 1) 0))
-
-pub loop-j-smaller : goal.loop-j-smaller
-loop-j-smaller c = omega arith
-
-pub loop-j-preserved : goal.loop-j-preserved
-loop-j-preserved c = let a = c.args in let l = c.loop-j in let p = c.put_before-i in
-    let d = decimal_le (get_or a.fields (l.j - 1) 0) in
-    let m = length-set a.row.now (length a.row.now - 1) 0x0A in
-    let n = length-set p.new.out (p.result - 1) 0x09 in (
+pub loop-field-preserved : goal.loop-field-preserved
+loop-field-preserved c =
+    let l = c.loop-field in
+    let p = c.put_before-at in
+    let x = c.in-Some.field in
+    let t = YieldsList-turn (YieldsList-from_rev_slice c.args.fields.now cc) l.yielded _ l.yielded_by _ _ x c.in-Some.is c.next.ensures.steps in
+    let h : length l.yielded < length c.args.fields.now = omega (arith, t.0, length-reverse c.args.fields.now) in
+    let d = decimal_le x.now in
+    let m = length-set c.args.row.now (length c.args.row.now - 1) 0x0A in
+    let n = length-set p.new.out (p.result - 1) 0x09 in
+    let k = length_push l.yielded x in (
       omega arith,
       (
         omega arith,
         (
           omega arith,
-          (
-            omega arith,
-            cells-before l.row p.new.out a.fields a.k l.j l.i p.result
-                (omega arith) (omega arith) (omega arith) (omega arith) (omega arith) p.ensures.0 l.invariant.1.1.1.1,
-          ),
+          rw k (row-field l.row p.new.out c.args.fields.now (length l.yielded) l.at p.result x.now h t.1 (omega arith) (omega arith) p.ensures.0 l.invariant.1.1.1),
         ),
       ),
     )
 
-pub overflow_sub-i-2 : goal.overflow_sub-i-2
-overflow_sub-i-2 c = let a = c.args in omega (arith, length-set a.row.now (length a.row.now - 1) 0x0A)
-
-pub copy-requires : goal.copy-requires
-copy-requires c = let a = c.args in omega (arith, length-set a.row.now (length a.row.now - 1) 0x0A)
-
-pub shape_of-row : goal.shape_of-row
-shape_of-row c = let a = c.args in omega (arith, length-set a.row.now (length a.row.now - 1) 0x0A)
-
 pub returns : goal.returns
-returns c = let a = c.args in let l = c.loop-j in
-    let z : l.j ≡ 0 = omega arith in
+returns c =
+    let a = c.args in
+    let l = c.loop-field in
+    let t = YieldsList-end (YieldsList-from_rev_slice a.fields.now cc) l.yielded _ l.yielded_by _ _ c.in-None.is c.next.ensures.steps in
+    let z : length a.fields.now - length l.yielded ≡ 0 = omega (arith, t.1, length-reverse a.fields.now) in
     let n = length-set a.row.now (length a.row.now - 1) 0x0A in (
-      rw c.copy.ensures.0 (drop_sets l.row a.word.now (l.i - length a.word.now) l.i (omega arith) (omega arith))
-          ∙ ap (λ (x : List ℕ). a.word.now ++ x) (rw z at l.invariant.1.1.1.1),
+      rw c.copy.ensures.0 (drop_sets l.row a.word.now (l.at - length a.word.now) l.at (omega arith) (omega arith))
+          ∙ ap (λ (x : List ℕ). a.word.now ++ x) (rw z at l.invariant.1.1.1),
       omega arith,
     )

@@ -1,16 +1,13 @@
--- `rows::format` meets its contract. The invariant: from i on stand the fields from j on and LF, and a field takes at most 21 bytes. Assumes nothing.
+-- `rows::format` meets its contract. The invariant: from a place on stand the fields that were passed and LF, and a field takes at most 21 bytes. Assumes nothing.
 use Prim.Native.Nat.{◌+◌, ◌*◌, ◌-◌, ◌≤◌, ◌<◌}
 use mathlib.Core.Path.{◌≡◌}
 use mathlib.Core.List.{[], ◌∷◌, ◌++◌}
-use lib.ListN.{length, take, drop}
+use lib.ListN.{length, drop}
 use Rattle.text.specs.Lines.{LF}
 use Rattle.rows.specs.Row.{cells}
 use Rattle.rows.proofs.format.Given as goal
 
-abbrev pub invariant-loop-j : goal.invariant-loop-j
-invariant-loop-j l =
-    (l.j ≤ l.k) × ((l.i < length l.row) × ((length l.row ≤ l.i + 1 + 21 * (l.k - l.j)) × ((length l.row ≡ length l.initial.row)
-    × (drop l.i l.row ≡ cells (drop l.j (take l.k l.fields)) ++ (LF ∷ [])))))
-
-abbrev pub decreases-loop-j : goal.decreases-loop-j
-decreases-loop-j l = l.j
+abbrev pub invariant-loop-field : goal.invariant-loop-field
+invariant-loop-field l =
+    (length l.yielded ≤ length l.fields) × ((l.at < length l.row) × ((length l.row ≤ l.at + 1 + 21 * length l.yielded)
+    × (drop l.at l.row ≡ cells (drop (length l.fields - length l.yielded) l.fields) ++ (LF ∷ []))))
