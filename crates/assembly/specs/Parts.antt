@@ -1,5 +1,6 @@
 -- An assembly's answer, for the functions. Nothing here is document 01's.
 use Rattle.std.specs.Prelude.{ℕ, ◌≤◌, List, take, Result, Ok, Err}
+use Rattle.answer.specs.declared.Refusal.{Refusal}
 use Rattle.walk.specs.Outcome.{Outcome, text, refusal}
 
 -- an assembly's answer, with the buffer that begins with its text and the files taken in before

@@ -28,20 +28,10 @@ fn emit_all(
 {
     let mut at = 0;
     let mut file = 0;
-    let mut i = 0;
-    while i < count {
+    for i in 0..count {
         let room = Room { at, limit };
-        match joining::emit(index, contents, url, set, count, i, room, work) {
-            Ok(len) => {
-                at = len;
-            }
-            Err(refusal) => {
-                return Err(refusal);
-            }
-        }
-        let m = members::member_at(set, i);
-        file = m.file;
-        i += 1;
+        at = joining::emit(index, contents, url, set, count, i, room, work)?;
+        file = members::member_at(set, i).file;
     }
     joining::answer_of(put::put_bytes(b"\n", Room { at, limit }, work), file)
 }
@@ -51,13 +41,7 @@ fn table_end(table: usize, limit: usize, contents: usize, work: usize) -> usize
     requires { (1 ≤ limit) × (table + limit ≤ work) }
     ensures { (table < result) × (result ≤ work) }
 {
-    if contents <= limit {
-        return table + limit;
-    }
-    if work - table < contents {
-        return work;
-    }
-    table + contents
+    table + limit.max(contents).min(work - table)
 }
 
 // Assembles members into the front of the work buffer. Their texts that lie in it stand from the limit up to the table.
@@ -75,14 +59,10 @@ pub fn assemble(
     ensures by_index { (B n : ℕ) → read_assembled n result work.new ≡ outcome (judge B limit n (assemble_of url.now (files_from index.now contents.now work.old set.old 0 count))) }
     ensures assembled_within { AssembledWithin result limit }
 {
-    match preparation::prepare_all(contents, work, set, count) {
-        Ok(()) => {
-            let end = table_end(table, limit, contents.len(), work.len());
-            match shared::compare(index, contents, set, count, table, end, work) {
-                None => emit_all(index, contents, url, set, count, limit, work),
-                Some((first, second)) => { Err(Refusal::SharedAnchor(first, second)) }
-            }
-        }
-        Err(refusal) => Err(refusal),
+    preparation::prepare_all(contents, work, set, count)?;
+    let end = table_end(table, limit, contents.len(), work.len());
+    if let Some((first, second)) = shared::compare(index, contents, set, count, table, end, work) {
+        return Err(Refusal::SharedAnchor(first, second));
     }
+    emit_all(index, contents, url, set, count, limit, work)
 }
