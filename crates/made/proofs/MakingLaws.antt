@@ -270,3 +270,5 @@ module _ {B L count : ℕ} {index contents : List ℕ} {S : List File} {w₀ set
       all =
           let z : i ≡ count = omega (arith, a.few) in
           a.judged ∙ rw (files-end index contents w₀ set₀ i count h, z) (ap (λ (ts : List (List ℕ)). given ts used) (append-nil (texts_of (files_from index contents w set 0 count))))
+
+pub ruleset makings = (making_start, lie_on, making_end)

@@ -43,3 +43,5 @@ module _ {index rows : List ℕ} {room n L at : ℕ} {m : Member} (w : List ℕ)
 pub member_filled : (B L used : ℕ) (S : List File) (index contents w : List ℕ) (m : Member) (n : ℕ) {o : Outcome} → n ≡ m.file → m.source.work ≡ false
     → o ≡ filled B L used (chain S (name_of index m) no_marks (file_of n (name_of index m) (part m.source.start m.source.end contents))) → o ≡ filled B L used (start_at S (file_in index contents w m))
 member_filled B L used S index contents w m n e h q = rw h (rw e at q)
+
+pub ruleset slots = (source_in, slot-room)

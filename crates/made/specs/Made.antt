@@ -1,6 +1,7 @@
 -- The members of a book, each filled in its slot of the work buffer or kept as it stands in the contents. Nothing here is document 01's: functions promise it, and the laws of
 -- `proofs/` tie it to the walk of the book.
 use Rattle.std.specs.Prelude.{ℕ, suc, ◌+◌, ◌*◌, ◌≤◌, ◌<◌, ◌≡◌, false, List, map, length, Result, Ok, Err}
+use Rattle.answer.specs.declared.Refusal.{Refusal}
 use Rattle.index.specs.Index.{File}
 use Rattle.walk.specs.Steps.{Steps, go, Judged, given, refused, judge}
 use Rattle.chains.specs.Chains.{start_at}

@@ -18,16 +18,15 @@ use put::Source;
 fn placed(m: Member, source: Source) -> Member
     ensures { result ≡ placed_at m source }
 {
-    let name = m.name;
     Member {
-        name,
-        file: m.file,
         source,
         outline: listed::no_outline(),
+        ..m
     }
 }
 
 // Fills a member that stands in the contents, from a place of the work buffer on. The chain starts with its name.
+#[tactic(auto, using(crate::proofs::MemberLaws::slots))]
 fn fill_member(
     index: &[u8],
     rows: &[usize; 256],
@@ -42,20 +41,15 @@ fn fill_member(
         (start_at (files_in index.now rows.now contents.now at.count) (file_in index.now contents.now work.old m)) }
     ensures filled_within { FilledWithin result at.limit × (take slot work.new ≡ take slot work.old) }
 {
-    let name = m.name;
-    let a = name.start;
-    let e = name.end;
-    let source = m.source;
-    let start = source.start;
-    let end = source.end;
+    let name = &index[m.name.start..m.name.end];
     fragment::fill_regions(
         index,
         rows,
         contents,
-        &index[a..e],
+        name,
         [false; 64],
-        &index[a..e],
-        &contents[start..end],
+        name,
+        &contents[m.source.start..m.source.end],
         at,
         &mut work[slot..],
     )
@@ -63,6 +57,7 @@ fn fill_member(
 
 // Makes the members of a set, which stand in the contents: a filled one lies in its slot then, and one with no region is kept as it stands. The allowance runs on
 // through the set.
+#[tactic(auto, using(crate::proofs::MakingLaws::makings))]
 pub fn put_made(
     index: &[u8],
     rows: &[usize; 256],
@@ -80,8 +75,7 @@ pub fn put_made(
     ensures all_lie { AllLie index.now (length contents.now) limit (slot limit count) set.new count }
 {
     let mut used = 0;
-    let mut i = 0;
-    while i < count {
+    for i in 0..count {
         let m = members::member_at(set, i);
         let at = Filling {
             number: m.file,
@@ -93,22 +87,16 @@ pub fn put_made(
         let slot = (i + 1) * limit;
         match fill_member(index, rows, contents, m, at, slot, work) {
             Ok(Answer::Accepted { length, files }) => {
-                let end = slot + length;
                 let filled = Source {
                     work: true,
                     start: slot,
-                    end,
+                    end: slot + length,
                 };
                 members::put_member(set, i, placed(m, filled));
                 used = files;
-                i += 1;
             }
-            Ok(Answer::NoRegion) => {
-                i += 1;
-            }
-            Err(refusal) => {
-                return Err(refusal);
-            }
+            Ok(Answer::NoRegion) => continue,
+            Err(refusal) => return Err(refusal),
         }
     }
     Ok(used)

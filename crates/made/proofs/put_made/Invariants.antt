@@ -1,11 +1,7 @@
 -- `put_made` meets its contract. The invariant: the first i members are made, and the others stand as they did. Assumes nothing.
-use Prim.Native.Nat.{◌-◌}
 use Rattle.opening.specs.Opening.{files_in}
 use Rattle.made.proofs.MakingLaws.{Making}
 use Rattle.made.proofs.put_made.Given as goal
 
 abbrev pub invariant-loop-i : goal.invariant-loop-i
 invariant-loop-i l = Making l.allowance l.limit l.index l.contents (files_in l.index l.rows l.contents l.records) l.count l.initial.work l.initial.set l.work l.set l.i l.used
-
-abbrev pub decreases-loop-i : goal.decreases-loop-i
-decreases-loop-i l = l.count - l.i
