@@ -1,21 +1,16 @@
 -- Laws of a member put behind the rule that joins it. Assumes nothing.
 use Rattle.std.specs.Prelude.{Option}
-use Prim.Native.Nat.{ℕ, zero, suc, ◌+◌, ◌-◌, ◌≤◌, ◌<◌}
-use native.Mathlib.Omega.{arith}
-use mathlib.Core.Path.{◌≡◌, refl, sym, ap, ◌∙◌, subst}
+use Prim.Native.Nat.{ℕ, ◌≤◌, ◌<◌}
+use mathlib.Core.Path.{◌≡◌, refl, ap, ◌∙◌, subst}
 use mathlib.Core.List.{List, [], ◌++◌}
 use lib.IntN.{ℤ}
-use lib.ListN.{length, take, drop}
-use lib.Seq.{take-take}
-use Rattle.text.specs.Bytes.{part}
-use Rattle.text.specs.Pattern.{bytes}
-use Rattle.text.proofs.BytesLaws.{part_full}
+use lib.ListN.{length, drop}
 use Rattle.path.specs.Path.{parent_dir}
 use Rattle.link.specs.Target.{rewrite_target}
-use Rattle.put.specs.Put.{source_text, Able, Written, Wrote}
+use Rattle.put.specs.Put.{source_text, Written, Wrote}
 use Rattle.put.specs.declared.Room.{Room}
 use Rattle.put.specs.declared.Source.{Source}
-use Rattle.put.proofs.PutLaws.{Reached, room_at, reached_start, reached_next, reached_last, reached_length, reached_behind}
+use Rattle.put.proofs.PutLaws.{Reached, room_at, reached_start, reached_next, reached_last, reached_behind}
 use Rattle.member.specs.Member.{Prepared}
 use Rattle.members.specs.Members.{member_at, text_source, name_of}
 use Rattle.members.specs.declared.Member.{Member}
@@ -23,23 +18,7 @@ use Rattle.members.proofs.MembersLaws.{source_on}
 use Rattle.target.specs.Titles.{title_named, titles_in}
 use Rattle.emission.specs.Emission.{emitted_text}
 use Rattle.joining.specs.Joining.{rule_before, target_in, CanEmit}
-use Rattle.joining.proofs.StandLaws.{emit_on, members_on, text_able}
-
--- the rule, by whether the member is the first
-pub rule_none : (room : Room) (i : ℕ) (w : List ℕ) → i ≡ 0 → room.at ≤ room.limit → Written room (rule_before i) w w room.at
-rule_none room zero w e h = record { place = omega arith; below = h; wrote = refl }
-rule_none room (suc i) w e h = absurd (omega arith)
-
-pub rule_some : (i : ℕ) → (i ≡ 0 → ⊥) → bytes "\n\n---\n\n" ≡ rule_before i
-rule_some zero d = absurd (d refl)
-rule_some (suc i) d = refl
-
--- the directory of a name, as a part of the index
-pub dir_part : (index : List ℕ) (a e r : ℕ) → a ≤ e → e ≤ length index → take r (part a e index) ≡ parent_dir (part a e index) → r ≤ length (part a e index)
-    → part a (a + r) index ≡ parent_dir (part a e index)
-dir_part index a e r h k q l =
-    let s : a + r - a ≡ r = omega arith in
-    rw s (sym (take-take r (e - a) (drop a index) (omega (arith, part_full index a e k))) ∙ q)
+use Rattle.joining.proofs.StandLaws.{members_on, text_able}
 
 module _ {index contents set : List ℕ} {n : ℕ} (room : Room) (w : List ℕ) (able : CanEmit index contents set n room.limit w) (i : ℕ) (h : i < n) (below : room.at ≤ room.limit)
     (v : List ℕ) (at : ℕ) (p : Written room (rule_before i) w v at) where
@@ -48,12 +27,6 @@ module _ {index contents set : List ℕ} {n : ℕ} (room : Room) (w : List ℕ) 
 
   same-behind : drop room.limit v ≡ drop room.limit w
   same-behind = reached_behind (reached [])
-
-  pub rule_able : CanEmit index contents set n room.limit v
-  rule_able = emit_on able v (reached_length (reached [])) same-behind
-
-  pub rule_text : (m : Member) → m ≡ member_at set i → (text : Source) → text ≡ text_source m → Able text (record { at = at; limit = room.limit }) contents v
-  rule_text m e text t = subst (λ (x : Source). Able x (record { at = at; limit = room.limit }) contents v) (sym (t ∙ ap text_source e)) (text_able rule_able i h at p.below)
 
   -- what is put behind the rule is what would be put before it
   text_same : source_text (text_source (member_at set i)) contents v ≡ source_text (text_source (member_at set i)) contents w

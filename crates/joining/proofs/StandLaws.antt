@@ -2,13 +2,13 @@
 use Rattle.std.specs.Prelude.{Option}
 use Prim.Native.Nat.{ℕ, ◌≤◌, ◌<◌}
 use native.Mathlib.Omega.{arith}
-use mathlib.Core.Path.{◌≡◌, sym, subst, ap, ◌∙◌}
+use mathlib.Core.Path.{◌≡◌, sym, subst}
 use mathlib.Core.List.{List}
 use lib.ListN.{length, drop}
-use Rattle.put.specs.Put.{source_text, Able, Inside}
-use Rattle.put.proofs.PutLaws.{able_part, inside-any}
+use Rattle.put.specs.Put.{source_text, Able}
+use Rattle.put.proofs.PutLaws.{able_part}
 use Rattle.outline.specs.Outline.{IsOutline, moved_kinds}
-use Rattle.members.specs.Members.{member_at, text_source, prepared_in, prepared_from, Stands, AllKnown, file_in}
+use Rattle.members.specs.Members.{member_at, text_source, prepared_in, prepared_from, AllKnown, file_in}
 use Rattle.members.specs.declared.Member.{Member}
 use Rattle.members.proofs.MembersLaws.{source_on, prepared_same, prepared_on, text-part, prepares}
 use Rattle.joining.specs.Joining.{CanEmit}
@@ -42,9 +42,6 @@ module _ {index contents set : List ℕ} {n limit : ℕ} {w : List ℕ} (e : Can
     member_on v q = prepared_same index contents v w (member_at set i) (e.stand.stand i h)
         (source_on (member_at set i).source limit (length contents) (length w) contents v w (e.stand.stand i h).lies.inside q)
 
-    pub member_stands : (m : Member) → m ≡ member_at set i → Stands (length index) (length contents) limit (length w) m
-    member_stands m q = subst (Stands (length index) (length contents) limit (length w)) (sym q) (e.stand.stand i h)
-
     pub text_able : (at : ℕ) → at ≤ limit → Able (text_source (member_at set i)) (record { at = at; limit = limit }) contents w
     text_able at k =
         let s = e.stand.stand i h in
@@ -55,13 +52,10 @@ module _ {index contents set : List ℕ} {n limit : ℕ} {w : List ℕ} (e : Can
 
     -- what the shift is made from
     pub shift_ready : (m : Member) → m ≡ member_at set i → (text : Source) → text ≡ text_source m
-        → Inside text 0 (length contents) (length w) × AreLevels (moved_kinds (source_text text contents w)) m.outline.levels.top m.outline.levels.deepest
-    shift_ready m q text t = (
-      subst (λ (x : Source). Inside x 0 (length contents) (length w)) (sym (t ∙ ap text_source q))
-          (inside-any (text_source (member_at set i)) limit (length contents) (length w) (text_able 0 (omega arith)).inside),
-      subst (λ (x : Source). AreLevels (moved_kinds (source_text x contents w)) m.outline.levels.top m.outline.levels.deepest) (sym t)
-          (subst (λ (x : Member). AreLevels (moved_kinds (source_text (text_source x) contents w)) x.outline.levels.top x.outline.levels.deepest) (sym q) text-levels),
-    )
+        → AreLevels (moved_kinds (source_text text contents w)) m.outline.levels.top m.outline.levels.deepest
+    shift_ready m q text t =
+        subst (λ (x : Source). AreLevels (moved_kinds (source_text x contents w)) m.outline.levels.top m.outline.levels.deepest) (sym t)
+        (subst (λ (x : Member). AreLevels (moved_kinds (source_text (text_source x) contents w)) x.outline.levels.top x.outline.levels.deepest) (sym q) text-levels)
 
     member-prepares : prepare (file_in index contents w (member_at set i)) ≡ good (prepared_in index contents w (member_at set i))
     member-prepares = prepares (e.stand.stand i h).lies contents w index (e.known.known i h)

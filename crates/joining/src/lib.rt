@@ -11,8 +11,6 @@ ghost use Rattle.joining.specs.Joining.{rule_before, emit_in, target_in, put_ans
 use answer::{Place, Refusal};
 use put::Room;
 
-mod read;
-
 // What joins member i to the text before it: nothing before the first.
 fn put_rule(i: usize, room: Room, work: &mut [u8]) -> Option<usize>
     requires { (room.at ≤ room.limit) × (room.limit ≤ length work.old) }
@@ -40,26 +38,19 @@ fn put_behind(
     ensures { Wrote room (rule_before i ++ emitted_text (target_in index.now contents.now work.old url.now set.now count (member_at set.now i)) shift
         (source_text (text_source (member_at set.now i)) contents.now work.old)) work.old work.new result }
 {
-    let limit = room.limit;
-    let Some(at) = put_rule(i, room, work) else {
-        return None;
-    };
-    let m = members::member_at(set, i);
-    let name = m.name;
-    let a = name.start;
-    let e = name.end;
-    let n = a + path::parent_dir(&index[a..e]);
-    let text = members::text_of(m);
+    let at = put_rule(i, room, work)?;
+    let member = members::member_at(set, i);
+    let name = &index[member.name.start..member.name.end];
     emission::put_lines(
         index,
         contents,
         url,
         set,
         count,
-        text,
-        &index[a..n],
+        members::text_of(member),
+        &name[..path::parent_dir(name)],
         shift,
-        Room { at, limit },
+        Room { at, ..room },
         work,
     )
 }
@@ -68,10 +59,7 @@ fn put_behind(
 pub fn answer_of(put: Option<usize>, file: usize) -> Result<usize, Refusal>
     ensures { result ≡ put_answer file put }
 {
-    match put {
-        Some(len) => Ok(len),
-        None => Err(Refusal::TextLimit(Place { file, line: 0 })),
-    }
+    put.ok_or(Refusal::TextLimit(Place { file, line: 0 }))
 }
 
 // Member i behind the text so far: 16, then the member, then 17.
@@ -89,15 +77,14 @@ pub fn emit(
     ensures { AddedBehind room.limit (emit_in index.now contents.now work.old url.now set.now count)
         (prepared_in index.now contents.now work.old (member_at set.now i)) i (take room.at work.old) work.old work.new result }
 {
-    let m = members::member_at(set, i);
-    let file = m.file;
-    let outline = m.outline;
-    let levels = outline.levels;
-    match read::shift_in(contents, work, members::text_of(m), levels) {
-        Ok(shift) => answer_of(
-            put_behind(index, contents, url, set, count, i, shift, room, work),
-            file,
-        ),
+    let member = members::member_at(set, i);
+    let file = member.file;
+    let text = members::text_of(member).bytes(contents, work);
+    match outline::shift_below(text, member.outline.levels) {
+        Ok(shift) => {
+            let put = put_behind(index, contents, url, set, count, i, shift, room, work);
+            answer_of(put, file)
+        }
         Err(line) => Err(Refusal::HeadingLevel(Place { file, line })),
     }
 }
