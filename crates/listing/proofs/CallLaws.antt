@@ -7,7 +7,7 @@ use mathlib.Core.Bool.{Bool, true, false, cond}
 use mathlib.Core.List.{List, ◌++◌}
 use lib.ListN.{length, drop}
 use lib.Dec.{eqb, leb}
-use borrow.Author.Tests.{le-leb, lt-leb, leb-true, ne_eqb}
+use borrow.Author.Tests.{le-leb, lt-leb, leb-true}
 use Rattle.text.specs.Ascii.{wide_line}
 use Rattle.answer.specs.Answer.{place}
 use Rattle.answer.specs.declared.Answer.{Answer}
@@ -30,10 +30,6 @@ module _ (s out : List ℕ) (n : ℕ) (wide : wide_line 1 s ≡ 0) where
   pub short-answer : length out < length (listing s) → Err (TextLimit (place 0 0)) ≡ answer_of (length out) s
   unfolding answer_of
   short-answer h = rw (wide, lt-leb (length (listing s)) (length out) h)
-
-pub wide_answer : (s : List ℕ) (room n : ℕ) → n ≡ wide_line 1 s → (n ≡ 0 → ⊥) → Err (WideByte (place 0 n)) ≡ answer_of room s
-unfolding answer_of
-wide_answer s room n e h = rw (← e, ne_eqb n 0 h)
 
 -- an accepted listing lies within the room
 abbrev Within : ℕ → Result Answer Refusal → Type 0

@@ -7,7 +7,7 @@ use mathlib.Core.Path.{◌≡◌, sym, ap, ◌∙◌}
 use mathlib.Core.Bool.{true}
 use mathlib.Core.List.{List, [], ◌++◌, map}
 use lib.ListN.{length, take, drop, get_or, length-append, drop_of_length-le}
-use lib.Seq.{sets, sets-eq, drop-cons, get_or-take, length-take-le}
+use lib.Seq.{sets, sets-eq, drop-cons}
 use Rattle.buffer.proofs.BufferLaws.{sets_append}
 use Rattle.scan.specs.Scan.{scan}
 use Rattle.rows.specs.Row.{span_rows, region_rows, problem_rows}
@@ -48,18 +48,14 @@ listed s out q r h k i j =
     ∙ front s out h
 
 -- the words of a log from place i on
-module _ (log : List ℕ) (n i : ℕ) (t : Sheet) (h : n ≤ length log) where
-  pub logged_more : i < n → written (map unpacked (drop (i + 1) (take n log))) (write (unpacked (get_or log i 0)) t) ≡ written (map unpacked (drop i (take n log))) t
+module _ (words : List ℕ) (i : ℕ) (t : Sheet) where
+  pub logged_more : i < length words → written (map unpacked (drop (i + 1) words)) (write (unpacked (get_or words i 0)) t) ≡ written (map unpacked (drop i words)) t
   unfolding written
-  logged_more k =
-      let l : i < length (take n log) = omega (arith, length-take-le n log h) in
-      rw (drop-cons (take n log) i 0 l, get_or-take n log i 0 k, add-one)
+  logged_more k = rw (drop-cons words i 0 k, add-one)
 
-  pub logged_end : n ≤ i → written (map unpacked (drop i (take n log))) t ≡ t
+  pub logged_end : length words ≤ i → written (map unpacked (drop i words)) t ≡ t
   unfolding written
-  logged_end k =
-      let l : length (take n log) ≤ i = omega (arith, length-take-le n log h) in
-      rw (drop_of_length-le (take n log) l)
+  logged_end k = rw (drop_of_length-le words k)
 
 -- sums that stop at TOP, and those that did not
 sum_le : (a b c n x y z : ℕ) → n ≡ add (add a b) c → a ≡ add 0 x → b ≡ add 0 y → c ≡ add 0 z → n ≤ x + (y + z)
@@ -128,3 +124,6 @@ module _ (s log words none : List ℕ) (end : To) (e : sink end words none ≡ p
         ap (λ (t : Sink). t.sheet.bytes) q
         ∙ ap (λ (t : Sheet). t.bytes) (all_sheet (scan s) (sink (record { at = behind end.at; kept = end.kept }) l out))
         ∙ written_out h
+
+-- what the proof of `put_logged` applies
+pub ruleset logging = (logged_more, logged_end)

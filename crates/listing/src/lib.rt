@@ -9,6 +9,7 @@ use answer::{Answer, Place, Refusal};
 pub mod listing;
 
 // Scans a text and writes its listing.
+#[tactic(auto, unfolding(crate::specs::ScanCall::answer_of, crate::specs::ScanCall::output_of))]
 pub fn scan(text: &[u8], out: &mut [u8]) -> Result<Answer, Refusal>
     ensures value { result ≡ answer_of (length out.old) text.now }
     ensures out_after { out.new ≡ output_of result text.now out.old }

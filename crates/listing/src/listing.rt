@@ -1,6 +1,6 @@
 // The listing of a text in an output, or nothing of it. A first scan measures the rows and keeps what it finds in a log; where the log
 // has all of it the rows are written from there, else by a second scan.
-ghost use Rattle.std.specs.Prelude.{◌≡◌, map, ◌≤◌, length, take};
+ghost use Rattle.std.specs.Prelude.{◌≡◌, map, length};
 ghost use Rattle.text.specs.Ascii.{wide_line};
 ghost use Rattle.rows.specs.Sheet.{sheet, written, behind as behind_of};
 ghost use Rattle.event_log.specs.Log.{unpacked};
@@ -23,16 +23,14 @@ fn behind(lengths: Places) -> Places
     }
 }
 
-// Writes the rows of the first n words of a log.
-fn put_logged(log: &[usize], n: usize, out: &mut [u8], at: Places)
-    requires { n ≤ length log.now }
-    ensures { out.new ≡ (written (map unpacked (take n log.now)) (sheet at out.old)).bytes }
+// Writes the rows of a log's words.
+#[tactic(auto, using(crate::proofs::ListingLaws::logging))]
+fn put_logged(words: &[usize], out: &mut [u8], at: Places)
+    ensures { out.new ≡ (written (map unpacked words.now) (sheet at out.old)).bytes }
 {
     let mut to = at;
-    let mut i = 0;
-    while i < n {
-        to = rows::put(out, to, word::unpack(log[i]));
-        i += 1;
+    for word in words {
+        to = rows::put(out, to, word::unpack(*word));
     }
 }
 
@@ -52,16 +50,17 @@ fn list_with(s: &[u8], log: &mut [usize], out: &mut [u8]) -> Result<Answer, Refu
         words: 0,
         whole: true,
     };
-    let end = events::put_scan(s, log, &mut none, To { at, kept });
-    let counted = end.at;
-    let found = end.kept;
+    let To {
+        at: counted,
+        kept: found,
+    } = events::put_scan(s, log, &mut none, To { at, kept });
     let places = behind(counted);
     let length = rows::add(places.problems, counted.problems);
     if out.len() < length {
         return Err(Refusal::TextLimit(Place { file: 0, line: 0 }));
     }
     if found.whole {
-        put_logged(log, found.words, out, places);
+        put_logged(&log[..found.words], out, places);
         return Ok(Answer::Accepted { length, files: 0 });
     }
     let mut no_log = [0usize; 0];

@@ -4,47 +4,45 @@ use Rattle.listing.proofs.CallLaws.{fits-answer, fits-output, short-answer}
 use Rattle.listing.specs.ScanCall.{output_of}
 use native.Mathlib.Omega.{arith}
 use lib.ListN.{length}
+use lib.Seq.{length-take-le}
 use mathlib.Core.List.{[]}
-use mathlib.Core.Path.{refl, ◌∙◌}
+use mathlib.Core.Path.{refl, sym, ◌∙◌}
 use Prim.Native.Nat.{◌<◌, ◌^◌}
 use Rattle.listing.proofs.listing.list_with.Goals as goal
 
 pub returns-then-out-length : goal.returns-then-out-length
 unfolding output_of
-returns-then-out-length c = let a = c.args in let p = c.put_scan-end in let n = c.add-length.result in
-    let en = rw c.behind-places.ensures at c.add-length.ensures in
-    let fo : length a.out.now < 2 ^ 63 = omega (arith, c.well_formed.1.1.0) in
-    record { value = short-answer a.s.now a.out.now n c.requires (short a.s.now a.log.now p.new.log p.new.out p.result p.ensures a.out.now n en fo c.if-out-length.true); out_after = refl }
+returns-then-out-length c =
+    let a = c.args in
+    let n = c.add-length in
+    let e = rw c.behind-places.ensures at n.ensures in
+    let h : length a.out.now < 2 ^ 63 = omega (arith, c.well_formed.1.1.0) in
+    record { value = short-answer a.s.now a.out.now n.result c.requires (short a.s.now a.log.now _ _ _ c.put_scan.ensures a.out.now n.result e h c.if-out-length.true); out_after = refl }
 
-pub put_logged-requires : goal.put_logged-requires
-put_logged-requires c = let a = c.args in let p = c.put_scan-end in within a.s.now a.log.now p.new.log p.new.out p.result p.ensures
+pub slice_bounds-put_logged-end : goal.slice_bounds-put_logged-end
+slice_bounds-put_logged-end c = within c.args.s.now c.args.log.now _ _ _ c.put_scan.ensures
+
+pub slice_bounds-put_logged-end-then-found : goal.slice_bounds-put_logged-end-then-found
+slice_bounds-put_logged-end-then-found c = sym (length-take-le _ _ (within c.args.s.now c.args.log.now _ _ _ c.put_scan.ensures))
 
 pub returns-then-found : goal.returns-then-found
 returns-then-found c =
     let a = c.args in
-    let p = c.put_scan-end in
-    let pre = c.requires in
-    let g = c.well_formed in
-    let bh = c.behind-places in
-    let ad = c.add-length in
-    let i1 = c.if-out-length in
-    let i2 = c.if-found in
-    let n = ad.result in
-    let en = rw bh.ensures at ad.ensures in
-    let fo : length a.out.now < 2 ^ 63 = omega (arith, g.1.1.0) in
-    let x = exact a.s.now a.log.now p.new.log p.new.out p.result p.ensures a.out.now n en fo i1.false in record { value = fits-answer a.s.now a.out.now n pre i1.false x; out_after = fits-output a.s.now a.out.now n pre x (c.put_logged.ensures ∙ rw bh.ensures (written-log a.s.now a.log.now p.new.log p.new.out p.result p.ensures a.out.now n en fo i1.false i2.true)) }
+    let n = c.add-length in
+    let p = c.behind-places.ensures in
+    let e = rw p at n.ensures in
+    let h : length a.out.now < 2 ^ 63 = omega (arith, c.well_formed.1.1.0) in
+    let x = exact a.s.now a.log.now _ _ _ c.put_scan.ensures a.out.now n.result e h c.if-out-length.false in
+    let w = written-log a.s.now a.log.now _ _ _ c.put_scan.ensures a.out.now n.result e h c.if-out-length.false c.if-found.true in
+    record { value = fits-answer a.s.now a.out.now n.result c.requires c.if-out-length.false x; out_after = fits-output a.s.now a.out.now n.result c.requires x (c.put_logged.ensures ∙ rw p w) }
 
 pub returns : goal.returns
 returns c =
     let a = c.args in
-    let p = c.put_scan-end in
-    let g = c.well_formed in
-    let pre = c.requires in
-    let bh = c.behind-places in
-    let ad = c.add-length in
-    let i1 = c.if-out-length in
-    let again = c.put_scan in
-    let n = ad.result in
-    let en = rw bh.ensures at ad.ensures in
-    let fo : length a.out.now < 2 ^ 63 = omega (arith, g.1.1.0) in
-    let x = exact a.s.now a.log.now p.new.log p.new.out p.result p.ensures a.out.now n en fo i1.false in record { value = fits-answer a.s.now a.out.now n pre i1.false x; out_after = fits-output a.s.now a.out.now n pre x (written_again a.s.now a.log.now p.new.log p.new.out p.result p.ensures a.out.now n en fo [] i1.false (rw bh.ensures at again.ensures)) }
+    let n = c.add-length in
+    let p = c.behind-places.ensures in
+    let e = rw p at n.ensures in
+    let h : length a.out.now < 2 ^ 63 = omega (arith, c.well_formed.1.1.0) in
+    let x = exact a.s.now a.log.now _ _ _ c.put_scan.ensures a.out.now n.result e h c.if-out-length.false in
+    let w = written_again a.s.now a.log.now _ _ _ c.put_scan.ensures a.out.now n.result e h [] c.if-out-length.false (rw p at c.put_scan-2.ensures) in
+    record { value = fits-answer a.s.now a.out.now n.result c.requires c.if-out-length.false x; out_after = fits-output a.s.now a.out.now n.result c.requires x w }
