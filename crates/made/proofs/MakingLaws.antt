@@ -1,6 +1,6 @@
 -- The loop over the members of a set: those that are made, and those that still stand in the contents. Assumes nothing.
 use Prim.Native.Nat.{ℕ, zero, suc, ◌+◌, ◌-◌, ◌*◌, ◌≤◌, ◌<◌}
-use native.Mathlib.Nat.{sub-zero, suc-mul, add-mul, mul-le-mul_right}
+use native.Mathlib.Nat.{sub-zero, suc-mul, mul-le-mul_right}
 use native.Mathlib.Numerals.{add-one}
 use native.Mathlib.Omega.{arith}
 use mathlib.Core.Path.{◌≡◌, refl, sym, ◌∙◌, ap}
@@ -24,7 +24,7 @@ use Rattle.members.specs.declared.Member.{Member}
 use Rattle.members.proofs.MembersLaws.{put-length, member_put_same, member_put_other, files_more, files-at, files-end, files-up, files_set, source_up, inside_more}
 use Rattle.book.specs.Book.{with_texts}
 use Rattle.book.specs.BookWalk.{walk_all}
-use Rattle.made.specs.Made.{slot, placed_at, CanFill, CanMake, judged_all, texts_of, AreMade}
+use Rattle.made.specs.Made.{slot, placed_at, CanMake, judged_all, texts_of, AreMade}
 use Rattle.made.proofs.JudgeLaws.{all_more, all_stop, behind, behind-none, behind_more, filled-given, filled-stopped}
 
 -- members that differ at most in where their texts lie and in their outlines
@@ -62,30 +62,11 @@ slot_next L i = rw (add-one (i + 1)) (suc-mul (i + 1) L)
 pub slot_le : (L i k : ℕ) → i ≤ k → slot L i ≤ slot L k
 slot_le L i k h = mul-le-mul_right L (omega arith)
 
--- the slot of a member, and behind it one for each of n records and one more
-pub slots_fit : (L n count W i : ℕ) → (n + count + 2) * L ≤ W → i < count → slot L i + suc n * L ≤ W
-slots_fit L n count W i r h =
-    let e : (i + 1 + suc n) * L ≡ slot L i + suc n * L = add-mul (i + 1) (suc n) L in
-    let more : (i + 1 + suc n) * L ≤ (n + count + 2) * L = mul-le-mul_right L (omega arith) in
-    omega arith
-
 -- behind the slots of all members one more
 pub table_fits : (L n count W : ℕ) → (n + count + 2) * L ≤ W → slot L count + L ≤ W
 table_fits L n count W r =
     let more : slot L (count + 1) ≤ (n + count + 2) * L = mul-le-mul_right L (omega arith) in
     omega (arith, slot_next L count)
-
-pub can_fill : {index rows : List ℕ} {contents n count L W W' i : ℕ} {set : List ℕ} {m : Member} → CanMake index rows contents set n count L W → i < count → m ≡ member_at set i → W' ≡ W
-    → CanFill index rows contents m n L (slot L i) W'
-can_fill {index} {rows} {contents} {n} {count} {L} {W} {W'} {i} c h e q = record {
-  ready = c.ready;
-  lies = lies-as e (c.lie.lie i h);
-  stands = ap (λ (x : Member). x.source.work) e ∙ c.stand i h;
-  room = rw q (slots_fit L n count W i c.room h);
-}
-  where
-    lies-as : {m m' : Member} → m ≡ m' → Lies (length index) contents L L m' → Lies (length index) contents L L m
-    lies-as q l = rw q l
 
 -- ---- one member changes
 
