@@ -11,10 +11,8 @@ use answer::{Answer, Refusal};
 pub fn answer_of(got: Result<usize, Refusal>, files: usize) -> Result<Answer, Refusal>
     ensures { result ≡ assembled files got }
 {
-    match got {
-        Ok(length) => Ok(Answer::Accepted { length, files }),
-        Err(refusal) => Err(refusal),
-    }
+    let length = got?;
+    Ok(Answer::Accepted { length, files })
 }
 
 // Copies the text of an answer from the front of the work buffer to the front of the output.
@@ -22,12 +20,8 @@ fn copy_out(a: Result<Answer, Refusal>, work: &[u8], out: &mut [u8])
     requires { Fits a (length out.old) (length work.now) }
     ensures { out.new ≡ copied a work.now out.old }
 {
-    match a {
-        Ok(Answer::Accepted { length, files: _ }) => {
-            buffer::copy(&work[..length], out, 0);
-        }
-        Ok(Answer::NoRegion) => {}
-        Err(_) => {}
+    if let Ok(Answer::Accepted { length, .. }) = a {
+        buffer::copy(&work[..length], out, 0);
     }
 }
 
