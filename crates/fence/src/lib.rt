@@ -15,34 +15,31 @@ pub enum Fence {
 }
 
 // The fence that a line opens.
+#[tactic(auto, using(text::proofs::BytesLaws::rest), unfolding(crate::specs::Fences::opener, text::specs::Space::trim_start))]
 pub fn opening_fence(line: &[u8]) -> Fence
     ensures { result ≡ opener line.now }
 {
-    let a = space::lead(line);
-    if pattern::starts_with(&line[a..], b"```") {
-        return Fence::Ticks;
+    let text = &line[space::lead(line)..];
+    if pattern::starts_with(text, b"```") {
+        Fence::Ticks
+    } else if pattern::starts_with(text, b"~~~") {
+        Fence::Tildes
+    } else {
+        Fence::Outside
     }
-    if pattern::starts_with(&line[a..], b"~~~") {
-        return Fence::Tildes;
-    }
-    Fence::Outside
 }
 
 // Whether a line that has this opener opens a fence.
 pub fn opens(fence: Fence) -> bool
     ensures { result ≡ opens_fence fence }
 {
-    match fence {
-        Fence::Outside => false,
-        Fence::Ticks => true,
-        Fence::Tildes => true,
-    }
+    !matches!(fence, Fence::Outside)
 }
 
 // Whether a line toggles the fence of the marker scan.
+#[tactic(auto, using(crate::proofs::FenceLaws::fence_opener))]
 pub fn is_fence(line: &[u8]) -> bool
     ensures { result ≡ is_fence line.now }
 {
-    let fence = opening_fence(line);
-    opens(fence)
+    opens(opening_fence(line))
 }

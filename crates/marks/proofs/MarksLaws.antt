@@ -64,7 +64,7 @@ one_print number file h k = omega arith
 -- the places of a number, marked one after the other
 module _ {t t₁ t₂ t₃ : List ℕ} {number file mine : ℕ} (one : 1 ≤ file) (most : file ≤ 64) (is : mine ≡ mark_of number file) where
   pub marks : (a b c : Bool) → Mark t t₁ (place_one number (length t)) mine a → Mark t₁ t₂ (place_two number (length t)) mine b → Mark t₂ t₃ (place_three number (length t)) mine c
-      → Marks t t₃ number file (a && (b && c))
+      → Marks t t₃ number file (a && b && c)
   marks a b c m n o = record {
     long = long;
     still = λ k f l w. record {
@@ -85,8 +85,8 @@ module _ {t t₁ t₂ t₃ : List ℕ} {number file mine : ℕ} (one : 1 ≤ fil
         (λ e. o.alone e v g p (n.still _ v g (m.still _ v g w.three))) q in
         omega arith;
     spared = λ q.
-        let r = and_right a (b && c) q in
-        rw (← is) (m.spared (and_left a (b && c) q), (m.apart _ (n.spared (and_left b c r)), m.apart _ (n.apart _ (o.spared (and_right b c r)))));
+        let r = and_left (a && b) c q in
+        rw (← is) (m.spared (and_left a b r), (m.apart _ (n.spared (and_right a b r)), m.apart _ (n.apart _ (o.spared (and_right (a && b) c q)))));
   }
     where
       long : length t₃ ≡ length t
@@ -98,7 +98,7 @@ module _ {t t₁ t₂ t₃ : List ℕ} {number file mine : ℕ} (one : 1 ≤ fil
       on : (p k f : ℕ) → 1 ≤ f → Holds t p (mark_of k f) → Holds t₃ p (mark_of k f)
       on p k f l w = let g : 1 ≤ mark_of k f = omega arith in o.still p _ g (n.still p _ g (m.still p _ g w))
 
-      alone : {v : ℕ} (a b c : Bool) → (a ≡ false → v ≡ mine) → (b ≡ false → v ≡ mine) → (c ≡ false → v ≡ mine) → (a && (b && c)) ≡ false → v ≡ mine
+      alone : {v : ℕ} (a b c : Bool) → (a ≡ false → v ≡ mine) → (b ≡ false → v ≡ mine) → (c ≡ false → v ≡ mine) → (a && b && c) ≡ false → v ≡ mine
       alone false b c x y z q = x refl
       alone true false c x y z q = y refl
       alone true true c x y z q = z q

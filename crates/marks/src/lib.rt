@@ -37,10 +37,7 @@ fn mark(table: &mut [u8], at: usize, mine: u8) -> bool
         return false;
     }
     table[at] = MANY;
-    if old == MANY {
-        return true;
-    }
-    print_of(old) == print_of(mine)
+    old == MANY || print_of(old) == print_of(mine)
 }
 
 // Marks the places of an anchor's number. Answers whether a file other than this one may have been marked at all of them before.
@@ -53,5 +50,5 @@ pub fn mark_anchor(table: &mut [u8], number: usize, file: usize) -> bool
     let one = mark(table, number % n, mine);
     let two = mark(table, number / n % n, mine);
     let three = mark(table, number % 16777213 % n, mine);
-    one & (two & three)
+    one & two & three
 }

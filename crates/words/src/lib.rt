@@ -11,7 +11,7 @@ use std::io::Write;
 pub fn has_name(number: u64) -> bool
     ensures { result ≡ has_name number }
 {
-    (number == 13) | (number == 14) | (number == 19)
+    matches!(number, 13 | 14 | 19)
 }
 
 // The sentence for what is wrong with a call's input, up to the name or whole: 1 to 8.
