@@ -3,22 +3,18 @@ use Prim.Native.Nat.{ℕ, zero, suc, ◌+◌, ◌-◌, ◌≤◌, ◌<◌}
 use mathlib.Core.Path.{◌≡◌, refl, sym, ◌∙◌, ap, subst}
 use mathlib.Core.Bool.{Bool, false}
 use mathlib.Core.List.{List, [], ◌∷◌, ◌++◌}
-use native.Mathlib.Numerals.{add-one}
 use native.Mathlib.Omega.{arith}
 use borrow.Author.Tests.{eqb-false}
 use lib.Dec.{eqb}
-use lib.ListN.{length, take, drop, set, get_or, length-append}
-use lib.Seq.{sets, take_at}
-use Rattle.text.specs.Bytes.{part}
+use lib.ListN.{length, set, get_or, length-append}
+use lib.Seq.{sets}
 use Rattle.text.specs.Lines.{LF}
-use Rattle.text.proofs.BytesLaws.{rest}
 use Rattle.buffer.specs.Decimal.{decimal}
 use Rattle.buffer.proofs.BufferLaws.{sets_append}
 use Rattle.marker.specs.Marker.{kind_of}
-use Rattle.marker.specs.declared.line.Kind.{Kind}
-use Rattle.marker.specs.declared.line.Kind.TheVariants.{Plain, Fence, Fault, Closes, Opens, Spans}
+use Rattle.marker.specs.declared.line.Kind.TheVariants.{Opens}
 use Rattle.regions.proofs.PlaceLaws.{InKind, kind-path}
-use Rattle.station.specs.Station.{TAB, record_line, nth_line, named_as, named_on, shown_byte, shown_up_to}
+use Rattle.station.specs.Station.{TAB, record_line, nth_line, shown_byte, shown_up_to}
 
 pub line-none : (k : ℕ) (x : List (List ℕ)) {n : List ℕ} → nth_line k x ≡ n → k ≡ 0 → [] ≡ n
 unfolding nth_line
@@ -45,30 +41,10 @@ line-past (suc (suc k)) h e q = rw e at h
 pub piece_more : (last : Bool) (e n : ℕ) → last ≡ eqb e n → last ≡ false → e ≤ n → e + 1 ≤ n
 piece_more last e n p q h = let z = eqb-false e n (sym p ∙ q) in omega arith
 
-pub named-opens : (l : List ℕ) (a e : ℕ) (peer : Bool) → kind_of false false 0 l ≡ Opens a e peer → (part a e l ≡ named_on l) × ((a ≤ e) × (e ≤ length l))
+pub named-opens : (l : List ℕ) (a e : ℕ) (peer : Bool) → kind_of false false 0 l ≡ Opens a e peer → (a ≤ e) × (e ≤ length l)
 named-opens l a e peer q =
     let w : InKind 14 (length l) (Opens a e peer) = subst (InKind 14 (length l)) q (kind-path false false 0 l (length l) (omega arith)) in
-    (sym (ap (named_as l) q), omega arith)
-
-pub named_other : (l : List ℕ) (k : Kind) → kind_of false false 0 l ≡ k → ((a e : ℕ) (peer : Bool) → k ≡ Opens a e peer → ⊥) → (part 0 (length l) l ≡ named_on l) × ((0 ≤ length l) × (length l ≤ length l))
-named_other l k q h = (rest l 0 ∙ sym (ap (named_as l) q ∙ unnamed k h), omega arith)
-  where
-    unnamed : (k : Kind) → ((a e : ℕ) (peer : Bool) → k ≡ Opens a e peer → ⊥) → named_as l k ≡ l
-    unnamed Plain h = refl
-    unnamed Fence h = refl
-    unnamed (Fault k) h = refl
-    unnamed Closes h = refl
-    unnamed (Opens a e peer) h = absurd (h a e peer refl)
-    unnamed (Spans i) h = refl
-
--- a number's digits stand at the end of twenty bytes
-pub digits-put : (l rest : List ℕ) (n from : ℕ) → drop from l ≡ decimal n ++ rest → from + length (decimal n) ≡ 20 → take (20 - from) (drop from l) ≡ decimal n
-digits-put l rest n from p q = rw p (take_at (decimal n) rest (20 - from) (omega arith))
-
-pub number_put :
-    (l : List ℕ) (at n : ℕ) {m d : List ℕ} {r : ℕ} → d ≡ decimal n → m ≡ sets (set l at TAB) (at + 1) d → r ≡ at + 1 + length d
-    → (m ≡ sets l at (TAB ∷ decimal n)) × (r ≡ at + length (TAB ∷ decimal n))
-number_put l at n p q h = (rw (q, p, add-one at), rw (h, p) (omega arith))
+    omega arith
 
 behind : (l a b : List ℕ) (i j : ℕ) {m : List ℕ} → m ≡ sets l i a → j ≡ i + length a → sets m j b ≡ sets l i (a ++ b)
 behind l a b i j p q = rw (p, q) (sets_append l a b i)
@@ -111,3 +87,10 @@ shown_turn i s₀ p h q = rw (q, p, shown-next i s₀ h) (shown_more i s₀ h)
 pub shown-none : (s : List ℕ) → s ≡ shown_up_to 0 s
 unfolding shown_up_to
 shown-none s = refl
+
+-- what the proofs of the functions apply
+pub ruleset showing = (shown-length, shown_turn, shown-none)
+
+pub ruleset naming = (named-opens)
+
+pub ruleset passing = (line-none, line-here, line_on, line-past, piece_more)

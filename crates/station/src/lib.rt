@@ -19,8 +19,5 @@ pub fn largest_limit(work: usize, notes: usize, lines: usize) -> usize
     ensures { result ≡ largest_limit work notes lines }
 {
     let limit = work / (notes + lines + 2);
-    if MOST < limit {
-        return MOST;
-    }
-    limit
+    limit.min(MOST)
 }

@@ -7,6 +7,7 @@ ghost use Rattle.station.specs.Station.{TAB, record_line};
 use buffer::decimal;
 
 // Writes a tab and a number at a place of an index, and answers the place after them.
+#[tactic(auto, using(buffer::proofs::DecimalLaws::decimal_le))]
 fn put_number(index: &mut [u8], at: usize, n: usize) -> usize
     requires { at + length (TAB ∷ decimal_of n) ≤ length index.old }
     ensures { (index.new ≡ sets index.old at (TAB ∷ decimal_of n)) × (result ≡ at + length (TAB ∷ decimal_of n)) }
@@ -18,6 +19,7 @@ fn put_number(index: &mut [u8], at: usize, n: usize) -> usize
 }
 
 // Writes the record of a note at a place of an index, and answers the place after it.
+#[tactic(auto, using(crate::proofs::StationLaws::record_put, crate::proofs::StationLaws::record_length))]
 pub fn put_record(index: &mut [u8], at: usize, name: &[u8], start: usize, size: usize) -> usize
     requires { at + length (record_line name.now start size) ≤ length index.old }
     ensures { (index.new ≡ sets index.old at (record_line name.now start size)) × (result ≡ at + length (record_line name.now start size)) }

@@ -2,22 +2,19 @@
 ghost use Rattle.std.specs.Prelude.{◌≡◌};
 ghost use Rattle.station.specs.Station.{shown_byte as shown_of, shown};
 
+#[tactic(auto, using(std::proofs::lemmas::Bool::Decides::nat_tests))]
 fn shown_byte(b: u8) -> u8
     ensures { result ≡ shown_of b }
 {
-    if (0x20 <= b) & (b <= 0x7E) {
-        return b;
-    }
-    b'?'
+    if matches!(b, 0x20..=0x7E) { b } else { b'?' }
 }
 
 // Puts `?` in place of each byte that no name has.
+#[tactic(auto, using(crate::proofs::StationLaws::showing))]
 pub fn show(s: &mut [u8])
     ensures { s.new ≡ shown s.old }
 {
-    let mut i = 0;
-    while i < s.len() {
-        s[i] = shown_byte(s[i]);
-        i += 1;
+    for b in s.iter_mut() {
+        *b = shown_byte(*b);
     }
 }

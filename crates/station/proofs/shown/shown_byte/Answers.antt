@@ -1,8 +1,0 @@
--- `station::shown::shown_byte` meets its contract. Assumes nothing.
-use Rattle.station.proofs.shown.shown_byte.Goals as goal
-
-pub returns-then-b : goal.returns-then-b
-returns-then-b c = rw c.if-b.true
-
-pub returns : goal.returns
-returns c = rw c.if-b.false
