@@ -22,13 +22,12 @@ use Rattle.answer.specs.declared.Answer.TheVariants.{Accepted, NoRegion}
 use Rattle.answer.specs.declared.Refusal.{Refusal}
 use Rattle.book.specs.Calls.{fill_outcome}
 use Rattle.give.specs.Given.{read_answer, Fits}
-use Rattle.fill_call.specs.Answered.{answered}
 use Rattle.filling.proofs.RoomLaws.{free-none}
 use Rattle.opening.specs.Opening.{Ready}
 use Rattle.filling.specs.Filling.{read_filled, FilledWithin}
 
 -- a fill's own answer, read
-pub filled_read : (r : Result Answer Refusal) (w : List ℕ) → read_filled r w ≡ read_answer (answered r) w
+pub filled_read : (r : Result Answer Refusal) (w : List ℕ) → read_filled r w ≡ read_answer r w
 filled_read (Ok (Accepted n f)) w = refl
 filled_read (Ok NoRegion) w = refl
 filled_read (Err x) w = refl
@@ -59,7 +58,7 @@ module _ (index contents name text rows : List ℕ) (limit out work n : ℕ) (p 
   unfolding fill_outcome
   fill-passed B h = rw (p, ← rows_same q.told counted) h
 
-  pub fill_held : (r : Result Answer Refusal) → FilledWithin r limit → Fits (answered r) out work
+  pub fill_held : (r : Result Answer Refusal) → FilledWithin r limit → Fits r out work
   fill_held (Ok (Accepted m f)) h = (omega (arith, (fill_fit index contents name text limit out work p).1.0), omega (arith, roomy))
   fill_held (Ok NoRegion) h = tt
   fill_held (Err x) h = tt

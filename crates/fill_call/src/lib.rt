@@ -4,22 +4,11 @@
 ghost use Rattle.std.specs.Prelude.{◌≡◌, length};
 ghost use Rattle.book.specs.Calls.{fill_outcome, answer_of, output_after, work_after};
 ghost use Rattle.give.specs.Given.{read_answer, Fits};
-ghost use Rattle.fill_call.specs.Answered.{answered};
 
 use answer::{Answer, Refusal};
 use fileset::check;
 use fileset::check::Sizes;
 use opening::Filling;
-
-fn answer_of(got: Result<Answer, Refusal>) -> Result<Answer, Refusal>
-    ensures { result ≡ answered got }
-{
-    match got {
-        Ok(Answer::Accepted { length, files }) => Ok(Answer::Accepted { length, files }),
-        Ok(Answer::NoRegion) => Ok(Answer::NoRegion),
-        Err(refusal) => Err(refusal),
-    }
-}
 
 // Checks the input, and fills the host at the front of the work buffer.
 fn run(
@@ -36,29 +25,25 @@ fn run(
     ensures fits { Fits result sizes.output sizes.work }
 {
     let mut rows = [0usize; 256];
-    match check::check_fill(index, contents, name, text, sizes, &mut rows) {
-        Err(refusal) => Err(refusal),
-        Ok(()) => {
-            let at = Filling {
-                number: 0,
-                count: check::record_count(index),
-                limit: sizes.limit,
-                allowance,
-                used: 0,
-            };
-            answer_of(fragment::fill_regions(
-                index,
-                &rows,
-                contents,
-                name,
-                [false; 64],
-                name,
-                text,
-                at,
-                work,
-            ))
-        }
-    }
+    check::check_fill(index, contents, name, text, sizes, &mut rows)?;
+    let at = Filling {
+        number: 0,
+        count: check::record_count(index),
+        limit: sizes.limit,
+        allowance,
+        used: 0,
+    };
+    fragment::fill_regions(
+        index,
+        &rows,
+        contents,
+        name,
+        [false; 64],
+        name,
+        text,
+        at,
+        work,
+    )
 }
 
 // A fill of a host, by its name and text. The limit, the allowance and both buffers are the caller's.
