@@ -4,6 +4,7 @@ use Prim.Native.Nat.{ℕ}
 use mathlib.Core.Path.{◌≡◌, ◌∙◌, sym, ap}
 use mathlib.Core.List.{List}
 use Rattle.index.specs.Index.{File}
+use Rattle.answer.specs.declared.Refusal.{Refusal}
 use Rattle.walk.specs.Steps.{judge}
 use Rattle.walk.specs.Outcome.{outcome}
 use Rattle.assembled.specs.Assemble.{assemble}

@@ -35,16 +35,12 @@ fn assemble_made(
         (files_from index.now contents.now work.old set.old 0 count) url.now)) }
     ensures fits { Fits result limit limit }
 {
-    match made::put_made(
+    let files = made::put_made(
         index, rows, contents, records, limit, allowance, set, count, work,
-    ) {
-        Err(refusal) => Err(refusal),
-        Ok(files) => {
-            let table = (count + 1) * limit;
-            let text = assembly::assemble(index, contents, url, set, count, limit, table, work);
-            give::answer_of(text, files)
-        }
-    }
+    )?;
+    let table = (count + 1) * limit;
+    let length = assembly::assemble(index, contents, url, set, count, limit, table, work)?;
+    Ok(Answer::Accepted { length, files })
 }
 
 // The same for the members of a list, once the checks pass.
