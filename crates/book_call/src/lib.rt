@@ -25,12 +25,10 @@ fn run(
 {
     let mut rows = [0usize; 256];
     let mut lines = [0usize; 64];
-    match check::check_book(index, contents, list, url, sizes, &mut rows, &mut lines) {
-        Err(refusal) => Err(refusal),
-        Ok(()) => book_walk::assemble_listed(
-            index, &rows, &lines, contents, list, url, sizes, allowance, work,
-        ),
-    }
+    check::check_book(index, contents, list, url, sizes, &mut rows, &mut lines)?;
+    book_walk::assemble_listed(
+        index, &rows, &lines, contents, list, url, sizes, allowance, work,
+    )
 }
 
 // A book of the members of a list, with the URL of their repository. The limit, the allowance and both buffers are the caller's.
