@@ -11,11 +11,12 @@ use lib.ListN.{length, take, drop, get_or, drop_of_length-le}
 use lib.Seq.{drop-cons}
 use lib.Dec.{eqb, leb, eqb-suc-suc, eqb-zero-suc, eqb-suc-zero}
 use borrow.Author.Tests.{not-true, not-false, eq-eqb, ne_eqb, eqb-true, leb-true, lt-leb}
+use Rattle.std.proofs.lemmas.List.{get_or-take, get_or-drop}
 use Rattle.text.specs.Bytes.{part, is, any, first, after_last}
 use Rattle.text.specs.Space.{is_space, is_other, lead, kept, trim_start, trim_end, trim}
 use Rattle.text.specs.Pattern.{starts_with, equals}
 use Rattle.text.proofs.BytesLaws.{or_left, or_right, after_none}
-use Rattle.text.proofs.PatternLaws.{and_left, and_right}
+use Rattle.text.proofs.PatternLaws.{and_right}
 use Rattle.text.specs.Ascii.{lower}
 use Rattle.anchor.specs.Anchor.{markup_after, stands, is_linked, Cut, cut_byte, cut_from, is_mark, is_word, word_follows, word_before, stays, shows, plain_from, is_kept, anchor_of, is_text, is_shown, word_after, is_seen, plain_end_from}
 use Rattle.anchor.specs.declared.Markup.{Markup}
@@ -167,12 +168,6 @@ unseen_word m x h k = go (is_mark x) (is_space x) refl refl (rw k at h)
         yes : (l : Bool) → ((l || true) && true) ≡ true
         yes true = refl
         yes false = refl
-
-pub seen_text : (m : Markup) (x : ℕ) {a b v : Bool} → a ≡ is_text m x → b ≡ is_space x → a ≡ true → not b ≡ v → is_seen m x ≡ v
-seen_text m x p q h k = rw (← p, ← q, h) k
-
-pub seen_markup : (m : Markup) (x : ℕ) {a : Bool} → a ≡ is_text m x → a ≡ false → is_seen m x ≡ false
-seen_markup m x p h = rw (← p, h)
 
 -- whether a byte that is text and no space byte is left
 unfoldable any_seen : Markup → List ℕ → Bool
@@ -427,7 +422,11 @@ part-cons t i e h k =
     let l : i < length t = omega arith in
     rw (j, drop-cons t i 0, add-one i)
 
-part_none : (t : List ℕ) (i e : ℕ) → e ≤ i → part i e t ≡ []
+-- its byte at place i
+pub part_byte : (t : List ℕ) (a e i : ℕ) → i < e - a → get_or (part a e t) i 0 ≡ get_or t (a + i) 0
+part_byte t a e i h = get_or-take (e - a) (drop a t) i 0 h ∙ get_or-drop a t i 0
+
+pub part_none : (t : List ℕ) (i e : ℕ) → e ≤ i → part i e t ≡ []
 part_none t i e h =
     let j : e - i ≡ 0 = omega arith in
     rw j
@@ -453,8 +452,8 @@ module _ (m : Markup) (t : List ℕ) (i e : ℕ) (h : i < e) (k : e ≤ length t
   pub follows_run : get_or t i 0 ≡ 0x5F → follows m (part i e t) ≡ follows (markup_after m (get_or t i 0)) (part (i + 1) e t)
   follows_run q = follows_past (rw (eq-eqb (get_or t i 0) 0x5F q) (and-false (stands m (get_or t i 0))))
 
-  pub follows_here : (stands m (get_or t i 0) && not (eqb (get_or t i 0) 0x5F)) ≡ true → follows m (part i e t) ≡ is_word (get_or t i 0)
-  follows_here p = follows-part ∙ (follows_cons m (get_or t i 0) (part (i + 1) e t) ∙ rw (and_left (stands m (get_or t i 0)) _ p, not-true (eqb (get_or t i 0) 0x5F) (and_right (stands m (get_or t i 0)) _ p)))
+  pub follows_here : stands m (get_or t i 0) ≡ true → (get_or t i 0 ≡ 0x5F → ⊥) → follows m (part i e t) ≡ is_word (get_or t i 0)
+  follows_here p q = follows-part ∙ (follows_cons m (get_or t i 0) (part (i + 1) e t) ∙ rw (p, ne_eqb (get_or t i 0) 0x5F q))
 
   plain-part : (w : Bool) → plain_in w m (part i e t) ≡ plain_in w m (get_or t i 0 ∷ part (i + 1) e t)
   plain-part w = ap (plain_in w m) (part-cons t i e h k)
@@ -544,3 +543,13 @@ equals_shorter y b = rw (eqb-suc-zero (length b))
 pub equals-nil : equals [] [] ≡ true
 unfolding equals starts_with
 equals-nil = refl
+
+pub ruleset ends = (end_on, end_done)
+
+pub ruleset following = (follows_end)
+
+pub ruleset nexts = (plain-none, anchor_kept, anchor_space, anchor_other, anchor_nil)
+
+pub ruleset equalities = (equals_on, equals_differ, equals_longer, equals_shorter, equals-nil)
+
+pub ruleset plains = (plain-none, anchor_nil)

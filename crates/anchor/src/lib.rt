@@ -4,7 +4,7 @@
 ghost use Rattle.std.specs.Prelude.{true, false, cond, ◌&&◌, List, ◌∷◌, ◌≡◌, ℕ, ◌≤◌, ◌<◌, length};
 ghost use Rattle.text.specs.Bytes.{part, is, any};
 ghost use Rattle.text.specs.Pattern.{equals as equals_to};
-ghost use Rattle.anchor.specs.Anchor.{stands as stands_in, markup_after, is_mark, is_text, is_word, is_kept, cut_left, word_follows, is_word_last, slug, anchor_from, CursorWithin, ReadByte, NextByte, plain_end, anchor_of, stirred, number_from, anchor_number};
+ghost use Rattle.anchor.specs.Anchor.{stands as stands_in, markup_after, is_mark, is_text, is_seen, is_word, is_kept, cut_left, word_follows, is_word_last, slug, anchor_from, CursorWithin, ReadByte, NextByte, plain_end, anchor_of, stirred, number_from, anchor_number};
 
 use text::{ascii, bytes, space};
 
@@ -41,65 +41,48 @@ struct TextByte {
 fn is_mark(b: u8) -> bool
     ensures { result ≡ is_mark b }
 {
-    (b == b'`') | ((b == b'*') | (b == b'_'))
+    matches!(b, b'`' | b'*' | b'_')
 }
 
 // Whether a byte stands once links are cut to their text.
+#[tactic(auto, unfolding(crate::specs::Anchor::stands))]
 fn stands(markup: Markup, b: u8) -> bool
     ensures { result ≡ stands_in markup b }
 {
     match markup {
-        Markup::Written => !(b == b'['),
-        Markup::Bracket => !(b == b']'),
-        Markup::Behind => !((b == b'(') | (b == b'[')),
+        Markup::Written => b != b'[',
+        Markup::Bracket => b != b']',
+        Markup::Behind => !matches!(b, b'(' | b'['),
         Markup::Target => false,
     }
 }
 
 // Whether a byte is text and no markup, where no run of underscores stays.
+#[tactic(auto, unfolding(crate::specs::Anchor::stands, crate::specs::Anchor::is_linked))]
 fn is_text(markup: Markup, b: u8) -> bool
     ensures { result ≡ is_text markup b }
 {
-    match markup {
-        Markup::Written => !((b == b'[') | is_mark(b)),
-        Markup::Bracket => !(b == b']'),
-        Markup::Behind => !((b == b'(') | ((b == b'[') | is_mark(b))),
-        Markup::Target => false,
-    }
+    stands(markup, b) && (matches!(markup, Markup::Bracket) || !is_mark(b))
+}
+
+// Whether a byte is text and no space byte.
+fn is_seen(markup: Markup, b: u8) -> bool
+    ensures { result ≡ is_seen markup b }
+{
+    is_text(markup, b) && !space::is_space(b)
 }
 
 // Where the byte after b stands.
+#[tactic(auto, unfolding(crate::specs::Anchor::markup_after))]
 fn markup_after(markup: Markup, b: u8) -> Markup
     ensures { result ≡ markup_after markup b }
 {
-    match markup {
-        Markup::Written => {
-            if b == b'[' {
-                return Markup::Bracket;
-            }
-            Markup::Written
-        }
-        Markup::Bracket => {
-            if b == b']' {
-                return Markup::Behind;
-            }
-            Markup::Bracket
-        }
-        Markup::Behind => {
-            if b == b'(' {
-                return Markup::Target;
-            }
-            if b == b'[' {
-                return Markup::Bracket;
-            }
-            Markup::Written
-        }
-        Markup::Target => {
-            if b == b')' {
-                return Markup::Written;
-            }
-            Markup::Target
-        }
+    match (markup, b) {
+        (Markup::Written | Markup::Behind, b'[') => Markup::Bracket,
+        (Markup::Bracket, b']') => Markup::Behind,
+        (Markup::Behind, b'(') => Markup::Target,
+        (Markup::Behind, _) | (Markup::Target, b')') => Markup::Written,
+        _ => markup,
     }
 }
 
@@ -107,33 +90,28 @@ fn markup_after(markup: Markup, b: u8) -> Markup
 fn is_word(b: u8) -> bool
     ensures { result ≡ is_word b }
 {
-    let x = ascii::lower(b);
-    ((0x61 <= x) & (x <= 0x7A)) | ((0x30 <= b) & (b <= 0x39))
+    ascii::lower(b).is_ascii_lowercase() || b.is_ascii_digit()
 }
 
 // Whether an anchor keeps a byte, in lower case.
 fn is_kept(b: u8) -> bool
     ensures { result ≡ is_kept b }
 {
-    is_word(b) | ((b == b'-') | (b == b'_'))
+    is_word(b) || matches!(b, b'-' | b'_')
 }
 
 // Where the trimmed text ends: after the last byte that is text and no space byte. An underscore that stays never stands at an end of it.
+#[tactic(auto, using(crate::proofs::AnchorLaws::ends))]
 fn text_end(text: &[u8]) -> usize
     ensures { (result ≡ plain_end text.now) × (result ≤ length text.now) }
 {
     let mut end = 0;
     let mut markup = Markup::Written;
-    let mut i = 0;
-    while i < text.len() {
-        let b = text[i];
-        if is_text(markup, b) {
-            if !space::is_space(b) {
-                end = i + 1;
-            }
+    for (i, &b) in text.iter().enumerate() {
+        if is_seen(markup, b) {
+            end = i + 1;
         }
         markup = markup_after(markup, b);
-        i += 1;
     }
     end
 }
@@ -145,25 +123,20 @@ pub fn start(text: &[u8]) -> AnchorCursor
 {
     let end = text_end(text);
     let mut markup = Markup::Written;
-    let mut i = 0;
-    while i < end {
-        let b = text[i];
-        if is_text(markup, b) {
-            if !space::is_space(b) {
-                return AnchorCursor {
-                    at: i,
-                    end,
-                    markup,
-                    last: 0,
-                    stays: false,
-                };
-            }
+    for (i, &b) in text[..end].iter().enumerate() {
+        if is_seen(markup, b) {
+            return AnchorCursor {
+                at: i,
+                end,
+                markup,
+                last: 0,
+                stays: false,
+            };
         }
         markup = markup_after(markup, b);
-        i += 1;
     }
     AnchorCursor {
-        at: i,
+        at: end,
         end,
         markup,
         last: 0,
@@ -172,20 +145,17 @@ pub fn start(text: &[u8]) -> AnchorCursor
 }
 
 // Whether a letter or digit stands directly after a run of underscores, of which this is left.
+#[tactic(auto, using(crate::proofs::AnchorLaws::following))]
 fn word_follows(text: &[u8], from: AnchorCursor) -> bool
     requires { (from.at ≤ from.end) × (from.end ≤ length text.now) }
     ensures { result ≡ word_follows (cut_left from text.now) }
 {
-    let end = from.end;
     let mut markup = from.markup;
-    let mut i = from.at;
-    while i < end {
-        let b = text[i];
-        if stands(markup, b) & (b != b'_') {
+    for &b in &text[from.at..from.end] {
+        if b != b'_' && stands(markup, b) {
             return is_word(b);
         }
         markup = markup_after(markup, b);
-        i += 1;
     }
     false
 }
@@ -198,10 +168,7 @@ fn run_stays(text: &[u8], from: AnchorCursor) -> bool
     if from.last == b'_' {
         return from.stays;
     }
-    if is_word(from.last) {
-        return word_follows(text, from);
-    }
-    false
+    is_word(from.last) && word_follows(text, from)
 }
 
 // Reads the byte at a cursor.
@@ -209,19 +176,14 @@ fn read(text: &[u8], from: AnchorCursor) -> TextByte
     requires { CursorWithin from text.now × (from.at < from.end) }
     ensures { ReadByte text.now from result }
 {
-    let i = from.at;
-    let b = text[i];
-    let here = from.markup;
-    let shown = is_text(here, b);
-    let markup = markup_after(here, b);
+    let b = text[from.at];
+    let shown = is_text(from.markup, b);
     let mut rest = AnchorCursor {
-        at: i + 1,
-        end: from.end,
-        markup,
-        last: from.last,
-        stays: from.stays,
+        at: from.at + 1,
+        markup: markup_after(from.markup, b),
+        ..from
     };
-    if !stands(here, b) {
+    if !stands(from.markup, b) {
         return TextByte { shown: false, rest };
     }
     if b != b'_' {
@@ -238,58 +200,41 @@ fn read(text: &[u8], from: AnchorCursor) -> TextByte
 }
 
 // The next byte of an anchor.
+#[tactic(auto, using(crate::proofs::AnchorLaws::nexts))]
 pub fn next(text: &[u8], from: AnchorCursor) -> Option<(u8, AnchorCursor)>
     requires { CursorWithin from text.now }
     ensures { NextByte text.now from result }
 {
     let mut c = from;
     while c.at < c.end {
-        let i = c.at;
-        let b = text[i];
-        let r = read(text, c);
-        c = r.rest;
-        if r.shown {
-            if is_kept(b) {
-                return Some((ascii::lower(b), c));
-            }
-            if b == 0x20 {
-                return Some((b'-', c));
-            }
+        let b = text[c.at];
+        let byte = read(text, c);
+        c = byte.rest;
+        if byte.shown && is_kept(b) {
+            return Some((ascii::lower(b), c));
+        }
+        if byte.shown && b == b' ' {
+            return Some((b'-', c));
         }
     }
     None
 }
 
 // Whether two heading texts have the same anchor.
+#[tactic(auto, using(crate::proofs::AnchorLaws::equalities))]
 pub fn same_anchor(s: &[u8], t: &[u8]) -> bool
     ensures { result ≡ equals_to (slug s.now) (slug t.now) }
 {
     let mut c = start(s);
     let mut d = start(t);
     loop {
-        let x = next(s, c);
-        let y = next(t, d);
-        match x {
-            Some((a, c2)) => match y {
-                Some((b, d2)) => {
-                    if a != b {
-                        return false;
-                    }
-                    c = c2;
-                    d = d2;
-                }
-                None => {
-                    return false;
-                }
-            },
-            None => match y {
-                Some((_, _)) => {
-                    return false;
-                }
-                None => {
-                    return true;
-                }
-            },
+        match (next(s, c), next(t, d)) {
+            (Some((a, c2)), Some((b, d2))) if a == b => {
+                c = c2;
+                d = d2;
+            }
+            (None, None) => return true,
+            _ => return false,
         }
     }
 }
@@ -303,42 +248,38 @@ fn stir(n: usize, b: u8) -> usize
 }
 
 // The same with a byte of a heading's text that is shown or not, which adds one byte to the anchor or none.
+#[tactic(auto, unfolding(crate::specs::Anchor::number_from, crate::specs::Anchor::anchor_of))]
 fn stir_in(n: usize, shown: bool, b: u8) -> usize
     requires { n < 0x100_0000_0000 }
     ensures by_index { (s : List ℕ) → number_from n (anchor_of (cond shown (b ∷ s) s)) ≡ number_from result (anchor_of s) }
     ensures upper_bound { result < 0x100_0000_0000 }
 {
-    if !shown {
-        return n;
-    }
-    if is_kept(b) {
+    if shown && is_kept(b) {
         return stir(n, ascii::lower(b));
     }
-    if b == 0x20 {
+    if shown && b == b' ' {
         return stir(n, b'-');
     }
     n
 }
 
 // The number of what is left of an anchor, where no underscore is.
+#[tactic(auto, using(crate::proofs::AnchorLaws::plains))]
 fn number_plain(text: &[u8], from: AnchorCursor) -> usize
     requires { CursorWithin from text.now × (any (is 0x5F) (part from.at from.end text.now) ≡ false) }
     ensures { (result ≡ anchor_number (anchor_from from text.now)) × (result < 0x100_0000_0000) }
 {
-    let end = from.end;
     let mut markup = from.markup;
     let mut n = 0;
-    let mut i = from.at;
-    while i < end {
-        let b = text[i];
+    for &b in &text[from.at..from.end] {
         n = stir_in(n, is_text(markup, b), b);
         markup = markup_after(markup, b);
-        i += 1;
     }
     n
 }
 
 // The number of what is left of an anchor.
+#[tactic(auto, using(crate::proofs::AnchorLaws::nexts), unfolding(crate::specs::Anchor::number_from))]
 fn number_left(text: &[u8], from: AnchorCursor) -> usize
     requires { CursorWithin from text.now }
     ensures { (result ≡ anchor_number (anchor_from from text.now)) × (result < 0x100_0000_0000) }
@@ -346,11 +287,10 @@ fn number_left(text: &[u8], from: AnchorCursor) -> usize
     let mut c = from;
     let mut n = 0;
     while c.at < c.end {
-        let i = c.at;
-        let b = text[i];
-        let r = read(text, c);
-        n = stir_in(n, r.shown, b);
-        c = r.rest;
+        let b = text[c.at];
+        let byte = read(text, c);
+        n = stir_in(n, byte.shown, b);
+        c = byte.rest;
     }
     n
 }
@@ -361,9 +301,7 @@ pub fn number_of(text: &[u8]) -> usize
     ensures upper_bound { result < 0x100_0000_0000 }
 {
     let c = start(text);
-    let at = c.at;
-    let end = c.end;
-    if bytes::has(&text[at..end], b'_') {
+    if bytes::has(&text[c.at..c.end], b'_') {
         return number_left(text, c);
     }
     number_plain(text, c)

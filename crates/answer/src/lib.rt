@@ -35,6 +35,7 @@ pub enum Refusal {
     SharedAnchor(Place, Place),
 }
 
+// An acceptance, or "no region". No Option, since document 01 asks for the answer's cases by name, each with its number.
 #[derive(Clone, Copy)]
 pub enum Answer {
     Accepted { length: usize, files: usize },

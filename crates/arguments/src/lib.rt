@@ -1,12 +1,11 @@
 #![tactic(auto)]
 
 // The arguments of stationbook.
-ghost use Rattle.std.specs.Prelude.{◌≤◌};
-ghost use Rattle.arguments.specs.Arguments.{Read};
+ghost use Rattle.std.specs.Prelude.{◌≤◌, IfOk};
+ghost use Rattle.arguments.specs.Arguments.{Called};
 
 use buffer::decimal;
 use std::env::{Env, FillError};
-use text::pattern;
 
 // The most files taken in, where no other number is given.
 const ALLOWANCE: usize = 65_536;
@@ -15,21 +14,21 @@ const MOST_ALLOWANCE: usize = 4_294_967_295;
 
 const MOST_NOTES: usize = 64;
 
-// The allowance, which argument names the book's file (0: none) and which is the URL. The list is the argument behind the URL, and
+// The allowance, which argument names the book's file, if one does, and which is the URL. The list is the argument behind the URL, and
 // the notes follow it.
 #[derive(Clone, Copy)]
 pub struct Call {
     pub allowance: usize,
-    pub book: usize,
+    pub book: Option<usize>,
     pub url: usize,
     pub notes: usize,
 }
 
+// Why the arguments are no call.
 #[derive(Clone, Copy)]
-pub enum Arguments {
-    Call(Call),
+pub enum NoCall {
     Usage,
-    TooMany,
+    TooManyNotes,
 }
 
 // What an argument may be before the URL.
@@ -56,16 +55,12 @@ fn argument_count(env: &impl Env) -> usize {
 fn word_at(env: &impl Env, i: usize) -> Word {
     let mut word = [0u8; 16];
     let n = env.arg(i, &mut word).unwrap_or(0);
-    if pattern::equals(&word[..n], b"-n") {
-        return Word::Allowance;
+    match &word[..n] {
+        b"-n" => Word::Allowance,
+        b"-o" => Word::Book,
+        _ if word[0] == b'-' => Word::Unknown,
+        _ => Word::Operand,
     }
-    if pattern::equals(&word[..n], b"-o") {
-        return Word::Book;
-    }
-    if word[0] == b'-' {
-        return Word::Unknown;
-    }
-    Word::Operand
 }
 
 // The allowance that an argument says: a 32-bit number.
@@ -75,32 +70,29 @@ fn allowance_at(env: &impl Env, i: usize) -> Option<usize> {
     if n == 0 {
         return None;
     }
-    let Some(allowance) = decimal::parse(&word[..n]) else {
-        return None;
-    };
-    if MOST_ALLOWANCE < allowance {
-        return None;
-    }
-    Some(allowance)
+    decimal::parse(&word[..n]).filter(|allowance| *allowance <= MOST_ALLOWANCE)
 }
 
 // The call that the URL is this argument of.
-fn call_at(env: &impl Env, url: usize, allowance: usize, book: usize) -> Arguments
+fn call_at(
+    env: &impl Env,
+    url: usize,
+    allowance: usize,
+    book: Option<usize>,
+) -> Result<Call, NoCall>
     requires { url ≤ 5 }
-    ensures { Read result }
+    ensures { IfOk result Called }
 {
-    let count = argument_count(env);
     let Word::Operand = word_at(env, url) else {
-        return Arguments::Usage;
+        return Err(NoCall::Usage);
     };
-    if count < url + 2 {
-        return Arguments::Usage;
-    }
-    let notes = count - url - 2;
+    let notes = argument_count(env)
+        .checked_sub(url + 2)
+        .ok_or(NoCall::Usage)?;
     if MOST_NOTES < notes {
-        return Arguments::TooMany;
+        return Err(NoCall::TooManyNotes);
     }
-    Arguments::Call(Call {
+    Ok(Call {
         allowance,
         book,
         url,
@@ -109,25 +101,18 @@ fn call_at(env: &impl Env, url: usize, allowance: usize, book: usize) -> Argumen
 }
 
 // Reads the arguments: at most two options, and then the URL.
-pub fn read(env: &impl Env) -> Arguments
-    ensures { Read result }
+pub fn read(env: &impl Env) -> Result<Call, NoCall>
+    ensures { IfOk result Called }
 {
     let mut url = 1;
     let mut allowance = ALLOWANCE;
-    let mut book = 0;
+    let mut book = None;
     while url < 4 {
         match word_at(env, url) {
-            Word::Allowance => {
-                let Some(n) = allowance_at(env, url + 1) else {
-                    return Arguments::Usage;
-                };
-                allowance = n;
-            }
-            Word::Book => {
-                book = url + 1;
-            }
+            Word::Allowance => allowance = allowance_at(env, url + 1).ok_or(NoCall::Usage)?,
+            Word::Book => book = Some(url + 1),
             Word::Operand => break,
-            Word::Unknown => return Arguments::Usage,
+            Word::Unknown => return Err(NoCall::Usage),
         }
         url += 2;
     }

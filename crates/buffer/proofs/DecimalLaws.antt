@@ -10,9 +10,11 @@ use mathlib.Core.Bool.{Bool, true, false, cond}
 use mathlib.Core.List.{List, [], ◌∷◌, ◌++◌, append_assoc}
 use lib.ListN.{length, set, drop, get_or, length-append, drop_of_length-le}
 use lib.Seq.{drop-cons}
-use lib.Dec.{ltb}
-use borrow.Author.Tests.{le-ltb, lt-ltb, le-leb, lt-leb}
+use lib.Dec.{ltb, leb}
+use borrow.Author.Tests.{le-ltb, lt-ltb, leb-true}
+use Rattle.text.specs.Ascii.{is_digit}
 use Rattle.buffer.specs.Decimal.{digits, decimal, number_from}
+use Rattle.text.proofs.PatternLaws.{and_right}
 use Rattle.buffer.proofs.BufferLaws.{set_before}
 
 digits-small : (f n : ℕ) → n < 10 → digits (suc f) n ≡ (0x30 + n) ∷ []
@@ -74,6 +76,8 @@ pub decimal-some : (n : ℕ) → 0 < length (decimal n)
 unfolding decimal
 decimal-some n = digits-some 19 n
 
+pub ruleset some_digits = (decimal-some)
+
 -- a number stands before place i once its last digit stands there and its tenth before that; a digit does by itself
 pub before_large : (l : List ℕ) (i m : ℕ) → 10 ≤ m → m < 2 ^ 64 → 0 < i → i ≤ length l
     → decimal (m / 10) ++ drop (i - 1) (set l (i - 1) (0x30 + m % 10)) ≡ decimal m ++ drop i l
@@ -87,31 +91,17 @@ before_small l i m h p q = set_before l i (0x30 + m) p q ∙ ap (λ (a : List �
 
 -- at byte i of s, behind the number n
 module _ (s : List ℕ) (n i : ℕ) (h : i < length s) where
-  pub at_low : get_or s i 0 < 0x30 → number_from n (drop i s) ≡ None
+  pub at_other : is_digit (get_or s i 0) ≡ false → number_from n (drop i s) ≡ None
   unfolding number_from
-  at_low q = rw (drop-cons s i 0 h, lt-leb 0x30 (get_or s i 0) q)
+  at_other q = rw (drop-cons s i 0 h, q)
 
-  pub at_high : 0x39 < get_or s i 0 → number_from n (drop i s) ≡ None
+  pub at_digit : is_digit (get_or s i 0) ≡ true → number_from n (drop i s) ≡ number_from (n * 10 + (get_or s i 0 - 0x30)) (drop (i + 1) s)
   unfolding number_from
-  at_high q = rw (drop-cons s i 0 h, le-leb 0x30 (get_or s i 0) (omega arith), lt-leb (get_or s i 0) 0x39 q)
-
-  pub at_digit : 0x30 ≤ get_or s i 0 → get_or s i 0 ≤ 0x39 → number_from n (drop i s) ≡ number_from (n * 10 + (get_or s i 0 - 0x30)) (drop (i + 1) s)
-  unfolding number_from
-  at_digit p q = rw (drop-cons s i 0 h, le-leb 0x30 (get_or s i 0) p, le-leb (get_or s i 0) 0x39 q, add-one i)
+  at_digit q = rw (drop-cons s i 0 h, q, add-one i)
 
 pub at-end : (s : List ℕ) (n i : ℕ) → length s ≤ i → number_from n (drop i s) ≡ Some n
 unfolding number_from
 at-end s n i h = rw (drop_of_length-le s h)
 
-power_le : (i k : ℕ) → i ≤ k → 10 ^ i ≤ 10 ^ k
-power_le zero zero h = omega arith
-power_le zero (suc k) h = omega (arith, power_le zero k (omega arith))
-power_le (suc i) zero h = omega arith
-power_le (suc i) (suc k) h = omega (arith, power_le i k (omega arith))
-
--- a number of at most nine digits
-pub nine_digits : (n i : ℕ) → n < 10 ^ i → i ≤ 9 → n < 1000000000
-nine_digits n i h q = omega (arith, power_le i 9 q)
-
-pub one_digit_more : (n i d : ℕ) → n < 10 ^ i → d < 10 → n * 10 + d < 10 ^ (i + 1)
-one_digit_more n i d h q = rw (add-one i) (omega arith)
+pub one_digit_more : (n i x : ℕ) → n < 10 ^ i → is_digit x ≡ true → n * 10 + (x - 0x30) < 10 ^ (i + 1)
+one_digit_more n i x h e = rw (add-one i) (omega (arith, leb-true x 0x39 (and_right (leb 0x30 x) (leb x 0x39) e)))

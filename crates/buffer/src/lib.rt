@@ -12,12 +12,9 @@ pub fn copy(s: &[u8], out: &mut [u8], at: usize) -> usize
     requires { at + length s.now ≤ length out.old }
     ensures { (out.new ≡ sets out.old at s.now) × (result ≡ at + length s.now) }
 {
-    let mut j = 0;
-    while j < s.len() {
-        out[at + j] = s[j];
-        j += 1;
-    }
-    at + j
+    let end = at + s.len();
+    out[at..end].copy_from_slice(s);
+    end
 }
 
 // Copies the bytes of a buffer from one place up to another down to an earlier place, and answers the place after them.
@@ -26,10 +23,8 @@ pub fn copy_down(out: &mut [u8], from: usize, to: usize, at: usize) -> usize
     ensures { (out.new ≡ sets out.old at (part from to out.old)) × (result ≡ at + (to - from)) }
 {
     let n = to - from;
-    let mut j = 0;
-    while j < n {
+    for j in 0..n {
         out[at + j] = out[from + j];
-        j += 1;
     }
     at + n
 }
@@ -38,9 +33,5 @@ pub fn copy_down(out: &mut [u8], from: usize, to: usize, at: usize) -> usize
 pub fn clear(out: &mut [u8])
     ensures { out.new ≡ replicate (length out.old) 0 }
 {
-    let mut i = 0;
-    while i < out.len() {
-        out[i] = 0;
-        i += 1;
-    }
+    out.fill(0);
 }

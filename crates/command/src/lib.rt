@@ -5,8 +5,8 @@ ghost use Rattle.std.specs.Prelude.{◌≤◌, length};
 ghost use Rattle.arguments.specs.Arguments.{Called};
 
 use answer::Answer;
-use arguments::{Arguments, Call};
-use notes::{Reading, buffers};
+use arguments::{Call, NoCall};
+use notes::buffers;
 use station::failed;
 use std::env::Env;
 use std::fs::Files;
@@ -22,25 +22,25 @@ const NO_CALL: u8 = 2;
 // The size of the work buffer.
 const WORK: usize = 3_670_016;
 
-// Writes the book, so long at the front of a buffer, to standard output or to the file that an argument names.
+// Writes the book, so long at the front of a buffer, to the file that an argument names, or to standard output.
 fn give<R: Env + Files + Print>(
     rt: &R,
     to: &mut impl Write,
-    book: usize,
+    book: Option<usize>,
     out: &[u8],
     length: usize,
 ) -> u8
     ensures { result ≤ 2 }
 {
-    if out.len() < length {
+    let Some(text) = out.get(..length) else {
         return NO_CALL;
-    }
-    let text = &out[..length];
-    if book != 0 {
-        if save::save(rt, to, book, text) {
-            return BOOK;
-        }
-        return NO_CALL;
+    };
+    if let Some(file) = book {
+        return if save::save(rt, to, file, text) {
+            BOOK
+        } else {
+            NO_CALL
+        };
     }
     match rt.write_all(text) {
         Ok(()) => BOOK,
@@ -70,30 +70,22 @@ fn make<R: Env + Files + Print>(
     let n = rt.arg(call.url, &mut url).unwrap_or(0);
     let lines = bytes::count_byte(list, b'\n');
     let limit = station::largest_limit(WORK, call.notes, lines);
-    let allowance = call.allowance;
-    let a = book_call::book(
+    let answer = book_call::book(
         index,
         contents,
         list,
         &url[..n],
         limit,
-        allowance,
+        call.allowance,
         &mut out,
         &mut work,
     );
-    match a {
-        Ok(Answer::Accepted { length, files: _ }) => give(rt, to, call.book, &out, length),
+    match answer {
+        Ok(Answer::Accepted { length, .. }) => give(rt, to, call.book, &out, length),
         Ok(Answer::NoRegion) => NO_CALL,
         Err(_) => {
-            let _ = report::say_refusal(
-                rt,
-                to,
-                call.url,
-                answer::numbers(a),
-                starts,
-                contents,
-                list,
-            );
+            let numbers = answer::numbers(answer);
+            let _ = report::say_refusal(rt, to, call.url, numbers, starts, contents, list);
             REFUSED
         }
     }
@@ -105,17 +97,16 @@ fn call_on<R: Env + Files + Print>(rt: &R, to: &mut impl Write, call: Call) -> u
     ensures { result ≤ 2 }
 {
     let mut list = [0u8; 65536];
-    let url = call.url;
-    let Reading::To(listed) = notes::read_argument(rt, to, url + 1, &mut list, 0) else {
+    let Some(listed) = notes::read_argument(rt, to, call.url + 1, &mut list, 0) else {
         return NO_CALL;
     };
     let mut index = buffers::index_buffer();
     let mut contents = buffers::text_buffer();
     let mut starts = [0usize; 65];
-    let Reading::To(indexed) = notes::read_notes(
+    let Some(indexed) = notes::read_notes(
         rt,
         to,
-        url + 2,
+        call.url + 2,
         call.notes,
         &mut index,
         &mut contents,
@@ -138,10 +129,10 @@ fn call_on<R: Env + Files + Print>(rt: &R, to: &mut impl Write, call: Call) -> u
 fn can_give(env: &impl Env, to: &mut impl Write, call: Call) -> bool
     requires { Called call }
 {
-    if call.book == 0 {
-        return true;
+    match call.book {
+        Some(file) => save::can_save(env, to, file, call.url + 1, call.notes + 1),
+        None => true,
     }
-    save::can_save(env, to, call.book, call.url + 1, call.notes + 1)
 }
 
 // Runs stationbook on the program's arguments, and answers its exit status. What is wrong is said on a writer, standard error.
@@ -149,17 +140,13 @@ pub fn run<R: Env + Files + Print>(rt: &R, to: &mut impl Write) -> u8
     ensures { result ≤ 2 }
 {
     match arguments::read(rt) {
-        Arguments::Call(call) => {
-            if can_give(rt, to, call) {
-                return call_on(rt, to, call);
-            }
-            NO_CALL
-        }
-        Arguments::Usage => {
+        Ok(call) if can_give(rt, to, call) => call_on(rt, to, call),
+        Ok(_) => NO_CALL,
+        Err(NoCall::Usage) => {
             let _ = to.write_all(b"usage: stationbook [-n ALLOWANCE] [-o BOOK] URL LIST NOTE...\n");
             NO_CALL
         }
-        Arguments::TooMany => {
+        Err(NoCall::TooManyNotes) => {
             let _ = to.write_all(b"stationbook: there are more than 64 notes\n");
             NO_CALL
         }

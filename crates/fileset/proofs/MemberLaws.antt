@@ -1,39 +1,28 @@
--- Laws of `specs/Members.antt`: the names of a list from a piece on and how many they are, a turn of the walk that finds their records and
+-- Laws of `specs/Members.antt`: how many names a list has, a turn of the walk that finds their records and
 -- what the form of a list tells. Assumes nothing.
 use Rattle.std.specs.Prelude.{Some, None}
-use Prim.Native.Nat.{ℕ, suc, ◌+◌, ◌-◌, ◌≤◌, ◌<◌}
+use Prim.Native.Nat.{ℕ, ◌+◌, ◌-◌, ◌≤◌, ◌<◌}
 use native.Mathlib.Nat.{add-zero}
 use native.Mathlib.Numerals.{add-one}
 use native.Mathlib.Omega.{arith}
 use mathlib.Core.Path.{◌≡◌, refl, ◌∙◌}
 use mathlib.Core.Bool.{Bool, true, false, cond, ◌||◌}
 use mathlib.Core.List.{List, [], ◌∷◌, ◌++◌, append_assoc, append-nil}
-use lib.ListN.{length, take, drop, set}
+use lib.ListN.{length, take, set}
 use lib.Seq.{length-take-le, take-suc-set}
 use lib.Dec.{eqb, leb}
 use borrow.Author.Tests.{leb-true}
-use Rattle.text.specs.Bytes.{part, is, count}
-use Rattle.text.specs.Lines.{LF, pieces, pieces_after}
+use Rattle.text.specs.Bytes.{is, count}
+use Rattle.text.specs.Lines.{LF, pieces}
 use Rattle.text.specs.Pattern.{ends_with}
 use Rattle.text.proofs.PatternLaws.{and_right}
 use Rattle.text.proofs.SplitLaws.{split-count}
-use Rattle.text.proofs.LineLaws.{before-end}
 use Rattle.index.specs.Index.{Record, find_record}
 use Rattle.fileset.specs.Members.{names, is_list, list_lines, absent_from, members_from}
 
 -- as many names as LFs
 pub names-count : (s : List ℕ) → length (names s) ≡ count (is LF) s
 names-count s = length-take-le (length (pieces s) - 1) (pieces s) (omega arith) ∙ omega (arith, split-count LF s)
-
--- the names from place a on, where the first piece ends at e
-module _ (s : List ℕ) (a e : ℕ) {last : Bool} (p : pieces (drop a s) ≡ part a e s ∷ pieces_after last e s) where
-  pub names_more : last ≡ false → names (drop a s) ≡ part a e s ∷ names (drop (e + 1) s)
-  names_more q =
-      let k : suc (length (pieces (drop (e + 1) s))) - 1 ≡ suc (length (pieces (drop (e + 1) s)) - 1) = omega (arith, split-count LF (drop (e + 1) s)) in
-      rw (p, q, k)
-
-  pub names-none : last ≡ true → names (drop a s) ≡ []
-  names-none q = rw (p, q)
 
 -- a turn of the walk: a name that a record has, and one that none has
 module _ (rs : List Record) {l : List ℕ} {ls ns : List (List ℕ)} (e : ns ≡ l ∷ ls) where
@@ -93,4 +82,4 @@ list_short s e = leb-true (length (names s)) 64 (and_right (eqb (length s) 0 || 
 -- what the proofs of the functions apply
 pub ruleset counting = (names-count)
 
-pub ruleset walking = (names_more, names-none, absent-not, absent-here, absent_none, members_more, members-end, before-end)
+pub ruleset walking = (absent-not, absent-here, absent_none, members_more, members-end)

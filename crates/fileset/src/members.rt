@@ -38,18 +38,11 @@ pub fn read(
     ensures members_after { result ≡ 0 → take (length (names list.now)) members.new ≡ members_from (records_in index.now rows.now 0 count) (names list.now) }
 {
     *members = [0usize; 64];
-    let mut n = 0;
-    let mut start = 0;
-    loop {
-        let name = lines::piece(list, start);
-        if name.last {
-            return 0;
-        }
-        let Some(record) = rows::find(index, rows, count, &list[start..name.end]) else {
+    for (n, name) in lines::ended(list).enumerate() {
+        let Some(record) = rows::find(index, rows, count, name) else {
             return n + 1;
         };
         members[n] = record;
-        n += 1;
-        start = name.end + 1;
     }
+    0
 }

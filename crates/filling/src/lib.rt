@@ -21,7 +21,7 @@ pub struct Spot {
     pub len: usize,
 }
 
-// What a fill does next: take a file in at a spot, and go on behind its region; or it is done.
+// What a fill does next: take a file in at a spot, and go on behind its region; or it is done. No Result, since neither is a failure.
 #[derive(Clone, Copy)]
 pub enum NextFile {
     Into {

@@ -1,40 +1,39 @@
 -- Laws of `specs/Contents.antt`: a lowercased text against another, by the byte at a place. Assumes nothing.
-use Prim.Native.Nat.{ℕ, ◌+◌, ◌<◌}
+use Prim.Native.Nat.{ℕ}
 use native.Mathlib.Omega.{arith}
+use Rattle.std.specs.Prelude.{IsTrue, ◌↔◌}
+use Rattle.std.specs.Char.{to_ascii_lowercase}
+use Rattle.std.proofs.lemmas.Bool.Decides.{nat_tests}
 use mathlib.Core.Path.{◌≡◌, refl, sym, ◌∙◌}
-use mathlib.Core.Bool.{Bool, true, false, ◌&&◌, ◌||◌}
-use mathlib.Core.List.{List, map}
-use lib.ListN.{length, drop, get_or, length-map, get_or-map}
-use borrow.Author.Tests.{eq-eqb, ne_eqb}
+use mathlib.Core.Bool.{Bool, true, false, ◌&&◌, ◌||◌, false≢true}
+use mathlib.Core.List.{List, [], ◌∷◌, map}
 use Rattle.text.specs.Pattern.{bytes, starts_with, equals}
-use Rattle.text.proofs.PatternLaws.{starts_more, starts_differs}
+use Rattle.text.proofs.PatternLaws.{equals-same, equals-drop}
 use Rattle.text.specs.Ascii.{lower}
 use Rattle.heading.specs.Contents.{is_lowered, is_contents, drops}
 use Rattle.heading.proofs.StillLaws.{no_hash_lem}
 
-lower-at : (s : List ℕ) (j : ℕ) → get_or (map lower s) j 0 ≡ lower (get_or s j 0)
+-- a text in lower case, against one that is in lower case, as std compares them
+lower-same : (x : ℕ) → to_ascii_lowercase x ≡ lower x
 unfolding lower
-lower-at s j = get_or-map lower s j 0
+lower-same x = grind (arith, nat_tests)
 
-module _ (p s : List ℕ) where
-  pub lowered_long : (length s ≡ length p → ⊥) → is_lowered p s ≡ false
-  unfolding is_lowered equals
-  lowered_long e = rw (length-map s lower, ne_eqb _ _ e)
+equals_self : {p s : List ℕ} → p ≡ s → equals p s ≡ true
+equals_self {p} {s} e = rw e (equals-drop s 0 (omega arith))
 
-  pub lowered_starts : length s ≡ length p → is_lowered p s ≡ starts_with p (map lower s)
-  unfolding is_lowered equals
-  lowered_starts e = rw (length-map s lower, eq-eqb _ _ e)
+map_same : (s : List ℕ) → map to_ascii_lowercase s ≡ map lower s
+map_same [] = refl
+map_same (x ∷ s) = rw (lower-same x, map_same s)
 
-  module _ (j : ℕ) (h : j < length p) (k : length s ≡ length p) where
-    long : j < length (map lower s)
-    long = omega (arith, length-map s lower)
-
-    pub lowered_more : lower (get_or s j 0) ≡ get_or p j 0
-        → starts_with (drop j p) (drop j (map lower s)) ≡ starts_with (drop (j + 1) p) (drop (j + 1) (map lower s))
-    lowered_more e = starts_more p (map lower s) j h long (lower-at s j ∙ e)
-
-    pub lowered_differs : (lower (get_or s j 0) ≡ get_or p j 0 → ⊥) → starts_with (drop j p) (drop j (map lower s)) ≡ false
-    lowered_differs e = starts_differs p (map lower s) j h long (λ q. e (sym (lower-at s j) ∙ q))
+pub lowered_same : (p s : List ℕ) {r : Bool} → map to_ascii_lowercase p ≡ p → (IsTrue r ↔ (map to_ascii_lowercase s ≡ map to_ascii_lowercase p)) → r ≡ is_lowered p s
+unfolding is_lowered
+lowered_same p s {r} q h = go r (equals p (map lower s)) refl h
+  where
+    go : (a b : Bool) → equals p (map lower s) ≡ b → (IsTrue a ↔ (map to_ascii_lowercase s ≡ map to_ascii_lowercase p)) → a ≡ b
+    go true true e h = refl
+    go false false e h = refl
+    go true false e h = let w : p ≡ map lower s = sym (sym (map_same s) ∙ h.0 refl ∙ q) in absurd (false≢true (sym e ∙ equals_self w))
+    go false true e h = h.1 (map_same s ∙ sym (equals-same p (map lower s) e) ∙ sym q)
 
 -- whether a line is dropped, by its first byte
 pub drops_other : (within : Bool) (l : List ℕ) → starts_with (bytes "#") l ≡ false → drops within l ≡ within

@@ -15,13 +15,13 @@ use Rattle.text.specs.Space.{is_space, lead, trim_start, is_blank}
 use Rattle.text.specs.First.{is_first, begins}
 use Rattle.text.proofs.BytesLaws.{or_left, or_right}
 use Rattle.text.proofs.FirstLaws.{blank_trimmed, blank_find, blank_begins, begins_trimmed, begins-starts}
-use Rattle.fence.specs.Fences.{opener, opens}
+use Rattle.fence.specs.Fences.{opener}
 use Rattle.heading.specs.Walk.{hashes, heading_of, closes, opens_comment, written_kind, comment_after, outside_kind, outside_after, step_kind, step_after, kinds_from, states_after, still_kind}
 use Rattle.heading.specs.Level.{shallower, shallowest_of, deeper}
 use Rattle.fence.specs.declared.Fence.{Fence}
 use Rattle.fence.specs.declared.Fence.TheVariants.{Outside, Ticks, Tildes}
 use Rattle.heading.specs.declared.walk.LineKind.{LineKind}
-use Rattle.heading.specs.declared.walk.LineKind.TheVariants.{Quoted, Other}
+use Rattle.heading.specs.declared.walk.LineKind.TheVariants.{Other}
 use Rattle.heading.specs.declared.walk.WalkState.{WalkState}
 
 -- a line that begins with no `#` is no heading
@@ -138,17 +138,6 @@ other_kind f c l e = bare-kind l (other_bare l e) f c
 pub other_after : (f : Fence) (c : Bool) (l : List ℕ) → begins l ≡ false → (f ≡ Outside → c ≡ false) → step_after f c l ≡ record { fence = f; comment = c }
 other_after f c l e = bare_fence l (other_bare l e) f c
 
--- what such a line is, by whether a fence is open
-pub still_open : (f : Fence) → opens f ≡ true → still_kind f ≡ Quoted
-still_open Outside e = let z : ◌≡◌ {A = ℕ} 0 1 = cc in absurd (omega arith)
-still_open Ticks e = refl
-still_open Tildes e = refl
-
-pub still-outside : (f : Fence) → opens f ≡ false → still_kind f ≡ Other
-still-outside Outside e = refl
-still-outside Ticks e = let z : ◌≡◌ {A = ℕ} 0 1 = cc in absurd (omega arith)
-still-outside Tildes e = let z : ◌≡◌ {A = ℕ} 0 1 = cc in absurd (omega arith)
-
 -- the kinds of lines and lines after them
 pub kinds_append : (st : WalkState) (ls us : List (List ℕ)) → kinds_from st (ls ++ us) ≡ kinds_from st ls ++ kinds_from (states_after st ls) us
 unfolding kinds_from states_after
@@ -216,3 +205,12 @@ module _ {C : Type 0} (step : C → LineKind → C) (F : C → List LineKind →
 
   pub gather_blanks : (n : ℕ) (b : C) (st : WalkState) (ls : List (List ℕ)) → F b (kinds_from st (replicate n [] ++ ls)) ≡ F b (kinds_from st ls)
   gather_blanks n b st ls = rw (blanks_kinds n st ls) (gather-still n st.fence b (kinds_from st ls))
+
+-- an empty line
+pub empty_kind : (f : Fence) (c : Bool) (l : List ℕ) → length l ≡ 0 → step_kind f c l ≡ still_kind f
+empty_kind f c l h = blank_kind f c l (none_blank l h)
+
+pub empty_after : (f : Fence) (c : Bool) (l : List ℕ) → length l ≡ 0 → step_after f c l ≡ record { fence = f; comment = c }
+empty_after f c l h = blank_after f c l (none_blank l h)
+
+pub ruleset still_lines = (begins-none, other_kind, other_after)

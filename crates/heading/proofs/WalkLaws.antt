@@ -1,28 +1,41 @@
 -- Laws of `specs/Walk.antt`: a heading has a level of 1 to 6, and its text lies within the line; what closes a fence; a line that opens one, and one that
 -- does not. Assumes nothing.
-use Prim.Native.Nat.{ℕ, ◌≤◌}
+use Rattle.std.specs.List.{prefix_len}
+use Rattle.text.proofs.BytesLaws.{rest}
+use Rattle.text.proofs.PatternLaws.{starts-long}
+use Prim.Native.Nat.{ℕ, suc, ◌+◌, ◌≤◌}
 use native.Mathlib.Omega.{arith}
-use mathlib.Core.Path.{◌≡◌, refl, sym, subst}
+use mathlib.Core.Path.{◌≡◌, refl, subst, ap}
 use mathlib.Core.Bool.{Bool, true, false, cond, not, ◌&&◌}
-use mathlib.Core.List.{List}
+use mathlib.Core.List.{List, [], ◌∷◌}
 use lib.ListN.{length, drop, length-drop}
-use lib.Dec.{leb}
+use lib.Dec.{eqb, leb}
 use borrow.Author.Tests.{leb-true}
-use Rattle.text.specs.Bytes.{is}
+use Rattle.text.specs.Bytes.{is, first}
 use Rattle.text.proofs.BytesLaws.{first_le, after_le}
 use Rattle.text.specs.Pattern.{bytes, starts_with}
 use Rattle.text.specs.Space.{is_other, lead, kept, trim_start}
-use Rattle.fence.specs.Fences.{opener, opens}
+use Rattle.fence.specs.Fences.{opener}
 use Rattle.fence.proofs.FenceLaws.{ticks-start, tildes_start}
-use Rattle.heading.specs.Walk.{hashes, text_start, text_end, heading_of, same_fence, closes, opens_comment, written_kind, comment_after, outside_kind, outside_after, step_kind, step_after}
+use Rattle.heading.specs.Walk.{hashes, text_start, text_end, heading_of, same_fence, closes, opens_comment, written_kind, outside_kind, step_kind, step_after, kinds_from}
 use Rattle.fence.specs.declared.Fence.{Fence}
 use Rattle.fence.specs.declared.Fence.TheVariants.{Outside, Ticks, Tildes}
 use Rattle.heading.specs.declared.walk.LineKind.{LineKind}
 use Rattle.heading.specs.declared.walk.LineKind.TheVariants.{Quoted, Heading, Other}
+use Rattle.heading.specs.declared.walk.WalkState.{WalkState}
 
 -- the test that ends a line's hashes
 abbrev pub is_no_hash : ℕ → Bool
 is_no_hash x = not (is 0x23 x)
+
+pub hashes-prefix : (l : List ℕ) → hashes l ≡ prefix_len (is 0x23) l
+unfolding hashes first
+hashes-prefix [] = refl
+hashes-prefix (x ∷ l) = go (eqb x 0x23) (hashes-prefix l)
+  where
+    go : (b : Bool) → hashes l ≡ prefix_len (is 0x23) l → cond (not b) 0 (suc (first is_no_hash l)) ≡ cond b (1 + prefix_len (is 0x23) l) 0
+    go true h = omega (arith, h)
+    go false h = refl
 
 -- hashes and spaces lie within
 pub hashes_le : (l : List ℕ) → hashes l ≤ length l
@@ -98,27 +111,11 @@ pub closes_tildes : (l : List ℕ) → closes Tildes l ≡ starts_with (bytes "~
 unfolding closes
 closes_tildes l = tildes_start (same_fence Tildes) l refl refl refl
 
--- a line outside fences that opens one, and one that does not
-abbrev Read : Bool → List ℕ → Fence → Bool → Type 0
-Read c l g true = (outside_kind c l g ≡ Quoted) × (outside_after c l g ≡ record { fence = g; comment = c })
-Read c l g false = (outside_kind c l g ≡ written_kind c l) × (outside_after c l g ≡ record { fence = Outside; comment = comment_after c l })
+-- lines have as many kinds
+pub kinds_length : (st : WalkState) (ls : List (List ℕ)) → length (kinds_from st ls) ≡ length ls
+unfolding kinds_from
+kinds_length st [] = refl
+kinds_length st (l ∷ ls) = ap suc (kinds_length (step_after st.fence st.comment l) ls)
 
-outside_read : (c : Bool) (l : List ℕ) (g : Fence) → Read c l g (opens g)
-unfolding outside_kind outside_after
-outside_read c l Outside = (refl, refl)
-outside_read c l Ticks = (refl, refl)
-outside_read c l Tildes = (refl, refl)
-
-module _ (c : Bool) (l : List ℕ) (g : Fence) (e : g ≡ opener l) where
-  pub outside-opens : opens g ≡ true → (Quoted ≡ step_kind Outside c l) × (record { fence = g; comment = c } ≡ step_after Outside c l)
-  unfolding step_kind step_after
-  outside-opens h =
-      let r = subst (Read c l g) h (outside_read c l g) in
-      (sym (rw (← e) r.0), sym (rw (← e) r.1))
-
-  pub outside-plain : opens g ≡ false
-      → (written_kind c l ≡ step_kind Outside c l) × (record { fence = Outside; comment = comment_after c l } ≡ step_after Outside c l)
-  unfolding step_kind step_after
-  outside-plain h =
-      let r = subst (Read c l g) h (outside_read c l g) in
-      (sym (rw (← e) r.0), sym (rw (← e) r.1))
+-- what a text begins with lies within it
+pub ruleset starts = (rest, starts-long)

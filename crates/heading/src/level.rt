@@ -8,20 +8,11 @@ ghost use Rattle.heading.specs.Level.{least as least_of, shallower as shallower_
 
 use crate::walk;
 use crate::walk::LineKind;
-use text::lines;
 
 fn least(level: usize, found: Option<usize>) -> Option<usize>
     ensures { result ≡ least_of level found }
 {
-    match found {
-        Some(m) => {
-            if level < m {
-                return Some(level);
-            }
-            found
-        }
-        None => Some(level),
-    }
+    Some(found.map_or(level, |shallowest| level.min(shallowest)))
 }
 
 // The shallower of what was found before a line and that line. Along the walk it stays a level of 1 to 6 (the law `level-step`).
@@ -29,36 +20,22 @@ pub fn shallower(found: Option<usize>, kind: LineKind) -> Option<usize>
     ensures { result ≡ shallower_of found kind }
 {
     match kind {
-        LineKind::Quoted => found,
-        LineKind::Heading {
-            level,
-            start: _,
-            end: _,
-        } => least(level, found),
-        LineKind::Other => found,
+        LineKind::Heading { level, .. } => least(level, found),
+        _ => found,
     }
 }
 
 // The shallowest level of a text's headings.
+#[tactic(auto, unfolding(crate::specs::Level::shallowest_of))]
 pub fn shallowest(s: &[u8]) -> Option<usize>
     ensures value { result ≡ shallowest_of None (kinds_from walk_begin (pieces s.now)) }
     ensures level { IsLevel result }
 {
     let mut found = None;
-    let mut state = walk::begin();
-    let mut a = 0;
-    loop {
-        let p = lines::piece(s, a);
-        let e = p.end;
-        let w = walk::step(state, &s[a..e]);
-        let kind = w.kind;
+    for kind in walk::kinds(s) {
         found = shallower(found, kind);
-        if p.last {
-            return found;
-        }
-        state = w.state;
-        a = e + 1;
     }
+    found
 }
 
 // The shift that takes the shallowest heading to the target.
@@ -73,19 +50,16 @@ pub fn shift_to(target: usize, found: Option<usize>) -> i32
 }
 
 // The level with the shift added, where that is 1 to 6.
-#[tactic(auto, using(crate::proofs::LevelLaws::high_sum, crate::proofs::LevelLaws::mid_sum))]
 pub fn shifted(level: usize, shift: i32) -> Option<usize>
     requires { (level ≤ 7) × (mag shift ≤ 7) }
     ensures { result ≡ moved_to (pos level +ℤ shift) }
 {
     let sum = level as i32 + shift;
-    if sum < 1 {
-        return None;
+    if (1..=6).contains(&sum) {
+        Some(sum as usize)
+    } else {
+        None
     }
-    if 6 < sum {
-        return None;
-    }
-    Some(sum as usize)
 }
 
 // Writes a heading line at a place of a buffer, and answers the place after it.
@@ -93,12 +67,8 @@ pub fn put_heading(out: &mut [u8], at: usize, level: usize, text: &[u8]) -> usiz
     requires { at + (level + 1 + length text.now) ≤ length out.old }
     ensures { (out.new ≡ sets out.old at (heading_line level text.now)) × (result ≡ at + (level + 1 + length text.now)) }
 {
-    let b = at + level;
-    let mut i = at;
-    while i < b {
-        out[i] = b'#';
-        i += 1;
-    }
-    out[b] = b' ';
-    buffer::copy(text, out, b + 1)
+    let end = at + level;
+    out[at..end].fill(b'#');
+    out[end] = b' ';
+    buffer::copy(text, out, end + 1)
 }

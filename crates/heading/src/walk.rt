@@ -1,11 +1,16 @@
 // The heading walk: a step a line. A line is what stands between LFs.
-ghost use Rattle.std.specs.Prelude.{◌≡◌, ◌≤◌, length, false, cond};
+ghost use Rattle.std.specs.Prelude.{◌≡◌, ◌+◌, ◌≤◌, length, false, cond};
 ghost use Rattle.text.specs.First.{is_first};
 ghost use Rattle.heading.specs.Walk.{hashes as hashes_of, heading_of, closes as closes_by, opens_comment, written_kind, comment_after, step_kind, step_after, still_kind, walk_begin};
 ghost use Rattle.fence.specs.declared.Fence.TheVariants.{Outside};
+ghost use Rattle.std.specs.Iterator.{YieldsFirst, item_count};
+ghost use Rattle.heading.specs.Walk.{kinds_from};
+ghost use Rattle.text.specs.Lines.{pieces};
 
 use fence::Fence;
-use text::{pattern, space};
+use std::marker::Model;
+use text::lines::Split;
+use text::{lines, pattern, space};
 
 #[derive(Clone, Copy)]
 pub enum LineKind {
@@ -47,98 +52,60 @@ pub fn begin() -> WalkState
 fn hashes(line: &[u8]) -> usize
     ensures { (result ≡ hashes_of line.now) × (result ≤ length line.now) }
 {
-    let mut i = 0;
-    while i < line.len() {
-        if line[i] != b'#' {
-            return i;
-        }
-        i += 1;
-    }
-    i
+    line.iter().take_while(|byte| **byte == b'#').count()
 }
 
 // A heading, or another line.
+#[tactic(auto, using(text::proofs::BytesLaws::rest), unfolding(crate::specs::Walk::heading_of, crate::specs::Walk::text_start, crate::specs::Walk::text_end))]
 pub fn split_heading(line: &[u8]) -> LineKind
     ensures { result ≡ heading_of line.now }
 {
-    let n = hashes(line);
-    if n < 1 {
+    let level = hashes(line);
+    if !(1..=6).contains(&level) || !pattern::starts_with(&line[level..], b" ") {
         return LineKind::Other;
     }
-    if 6 < n {
-        return LineKind::Other;
-    }
-    if !pattern::starts_with(&line[n..], b" ") {
-        return LineKind::Other;
-    }
-    let a = n + space::lead(&line[n..]);
-    let e = a + space::kept(&line[a..]);
-    LineKind::Heading {
-        level: n,
-        start: a,
-        end: e,
-    }
+    let start = level + space::lead(&line[level..]);
+    let end = start + space::kept(&line[start..]);
+    LineKind::Heading { level, start, end }
 }
 
 // Whether a line closes the open fence.
+#[tactic(auto, unfolding(crate::specs::Walk::closes))]
 fn closes(fence: Fence, line: &[u8]) -> bool
     ensures { result ≡ closes_by fence line.now }
 {
-    let opener = fence::opening_fence(line);
-    match fence {
-        Fence::Outside => false,
-        Fence::Ticks => match opener {
-            Fence::Outside => false,
-            Fence::Ticks => true,
-            Fence::Tildes => false,
-        },
-        Fence::Tildes => match opener {
-            Fence::Outside => false,
-            Fence::Ticks => false,
-            Fence::Tildes => true,
-        },
-    }
+    matches!(
+        (fence, fence::opening_fence(line)),
+        (Fence::Ticks, Fence::Ticks) | (Fence::Tildes, Fence::Tildes)
+    )
 }
 
 // Whether a line opens a comment that it does not end.
+#[tactic(auto, using(crate::proofs::WalkLaws::starts), unfolding(crate::specs::Walk::opens_comment, text::specs::Space::trim_start))]
 fn opens_comment(line: &[u8]) -> bool
     ensures { result ≡ opens_comment line.now }
 {
-    let a = space::lead(line);
-    if !pattern::starts_with(&line[a..], b"<!--") {
-        return false;
-    }
-    let b = a + 4;
-    !pattern::contains(&line[b..], b"-->")
+    let text = &line[space::lead(line)..];
+    pattern::starts_with(text, b"<!--") && !pattern::contains(&text[4..], b"-->")
 }
 
 // A line that no fence quotes, with a comment open above it or not.
+#[tactic(auto, unfolding(crate::specs::Walk::written_kind, crate::specs::Walk::comment_after))]
 fn written(comment: bool, line: &[u8]) -> WalkStep
     ensures { (result.kind ≡ written_kind comment line.now) × (result.state ≡ record { fence = Outside; comment = comment_after comment line.now }) }
 {
-    if comment {
-        return WalkStep {
-            kind: LineKind::Other,
-            state: WalkState {
-                fence: Fence::Outside,
-                comment: !pattern::contains(line, b"-->"),
-            },
-        };
-    }
-    if opens_comment(line) {
-        return WalkStep {
-            kind: LineKind::Other,
-            state: WalkState {
-                fence: Fence::Outside,
-                comment: true,
-            },
-        };
-    }
+    let (kind, comment) = if comment {
+        (LineKind::Other, !pattern::contains(line, b"-->"))
+    } else if opens_comment(line) {
+        (LineKind::Other, true)
+    } else {
+        (split_heading(line), false)
+    };
     WalkStep {
-        kind: split_heading(line),
+        kind,
         state: WalkState {
             fence: Fence::Outside,
-            comment: false,
+            comment,
         },
     }
 }
@@ -154,14 +121,16 @@ fn quoted(fence: Fence, comment: bool) -> WalkStep
 }
 
 // A line outside fences: an opener is looked for before comment state.
+#[tactic(auto, unfolding(crate::specs::Walk::step_kind, crate::specs::Walk::step_after, crate::specs::Walk::outside_kind, crate::specs::Walk::outside_after))]
 fn outside(comment: bool, line: &[u8]) -> WalkStep
     ensures { (result.kind ≡ step_kind Outside comment line.now) × (result.state ≡ step_after Outside comment line.now) }
 {
     let opener = fence::opening_fence(line);
     if fence::opens(opener) {
-        return quoted(opener, comment);
+        quoted(opener, comment)
+    } else {
+        written(comment, line)
     }
-    written(comment, line)
 }
 
 // A line in an open fence.
@@ -169,56 +138,99 @@ fn inside(fence: Fence, comment: bool, line: &[u8]) -> WalkStep
     ensures { result ≡ record { kind = LineKind.Quoted; state = record { fence = cond (closes_by fence line.now) Outside fence; comment = comment } } }
 {
     if closes(fence, line) {
-        return quoted(Fence::Outside, comment);
+        quoted(Fence::Outside, comment)
+    } else {
+        quoted(fence, comment)
     }
-    quoted(fence, comment)
 }
 
 // Whether a heading, a fence, a comment or a space can begin with a byte. Bytes below 24 hex that cannot are not told apart.
+#[tactic(auto, using(crate::proofs::StillLaws::no_first))]
 pub fn may_begin(b: u8) -> bool
     ensures { result ≡ false → is_first b ≡ false }
 {
-    (b < 0x24) | ((b == b'<') | ((b == b'`') | (b == b'~')))
+    b < 0x24 || matches!(b, b'<' | b'`' | b'~')
 }
 
 // A line that leaves the state as it is, and is no heading.
 fn still(state: WalkState) -> WalkStep
     ensures { result ≡ record { kind = still_kind state.fence; state = state } }
 {
-    let fence = state.fence;
-    if fence::opens(fence) {
-        return WalkStep {
-            kind: LineKind::Quoted,
-            state,
-        };
-    }
-    WalkStep {
-        kind: LineKind::Other,
-        state,
-    }
+    let kind = if fence::opens(state.fence) {
+        LineKind::Quoted
+    } else {
+        LineKind::Other
+    };
+    WalkStep { kind, state }
 }
 
 // What a line is, and the state after it, by all its bytes.
+#[tactic(auto, unfolding(crate::specs::Walk::step_kind, crate::specs::Walk::step_after))]
 fn read(state: WalkState, line: &[u8]) -> WalkStep
     ensures { (result.kind ≡ step_kind state.fence state.comment line.now) × (result.state ≡ step_after state.fence state.comment line.now) }
 {
-    let fence = state.fence;
-    match fence {
+    match state.fence {
         Fence::Outside => outside(state.comment, line),
-        Fence::Ticks => inside(fence, state.comment, line),
-        Fence::Tildes => inside(fence, state.comment, line),
+        fence => inside(fence, state.comment, line),
     }
 }
 
 // What a line is, and the state after it. Most lines are told by their first byte; in a comment any line can end it.
+#[tactic(auto, using(crate::proofs::StillLaws::still_lines))]
 pub fn step(state: WalkState, line: &[u8]) -> WalkStep
     ensures { (result.kind ≡ step_kind state.fence state.comment line.now) × (result.state ≡ step_after state.fence state.comment line.now) }
 {
-    if line.len() == 0 {
+    if line.is_empty() {
         return still(state);
     }
-    if may_begin(line[0]) | state.comment {
-        return read(state, line);
+    if may_begin(line[0]) || state.comment {
+        read(state, line)
+    } else {
+        still(state)
     }
-    still(state)
+}
+
+// What the lines of a text are, one after the other.
+#[derive(Drop)]
+pub struct LineKinds<'a> {
+    lines: Split<'a>,
+    state: WalkState,
+}
+
+impl<'a> Model for LineKinds<'a> {
+    ghost use Rattle.std.specs.Prelude.{List};
+    ghost use Rattle.heading.specs.Walk.{kinds_from};
+    ghost use Rattle.heading.specs.declared.walk.LineKind.{LineKind};
+
+    ghost Value = { List LineKind };
+
+    ghost view = { λ walked. kinds_from walked.state walked.lines };
+}
+
+impl<'a> Iterator for LineKinds<'a> {
+    type Item = LineKind;
+
+    ghost next_gives = { YieldsFirst (λ left. left) };
+
+    ghost remaining = { item_count (λ left. left) };
+
+    #[tactic(auto, unfolding(crate::specs::Walk::kinds_from))]
+    fn next(&mut self) -> Option<LineKind> {
+        let line = self.lines.next()?;
+        let walked = step(self.state, line);
+        self.state = walked.state;
+        Some(walked.kind)
+    }
+}
+
+// What the lines of a text are, from its first line on.
+#[tactic(auto, using(crate::proofs::WalkLaws::kinds_length))]
+pub fn kinds(s: &[u8]) -> LineKinds<'_>
+    ensures value { result ≡ kinds_from walk_begin (pieces s.now) }
+    ensures few { length result ≤ length s.now + 1 }
+{
+    LineKinds {
+        lines: lines::pieces(s),
+        state: begin(),
+    }
 }

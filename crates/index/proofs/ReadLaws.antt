@@ -11,12 +11,13 @@ use lib.ListN.{length, take, drop, length-take}
 use lib.Seq.{take-take}
 use lib.Dec.{eqb}
 use borrow.Author.Count.{below_more}
-use borrow.Author.Tests.{eqb-true, eqb-false, ne_eqb}
+use borrow.Author.Tests.{eqb-true, ne_eqb}
 use Rattle.index.specs.declared.line.IndexLine.{IndexLine}
 use Rattle.text.specs.Bytes.{part, is, first, count}
-use Rattle.text.specs.Lines.{LF, pieces}
+use Rattle.text.specs.Lines.{LF, pieces, ended}
 use Rattle.text.specs.Split.{split}
 use Rattle.text.proofs.BytesLaws.{first_le, part_length}
+use Rattle.text.proofs.PieceLaws.{EndedAt, ended_at, ended_none}
 use Rattle.text.proofs.SplitLaws.{split_step, split-last, split-count}
 use Rattle.index.specs.Index.{TAB, is_name, field_of, numbered, fields, line_of, is_fields, ill_formed_from, ill_formed, entry, recorded, records_from, records}
 use Rattle.index.specs.Rows.{row, row_at, put_row, record_of, records_in, AreNamed, AreRows, index_read}
@@ -47,9 +48,6 @@ name-within l i e = go (dec_le (length l) k)
     go (yes h) = omega (arith, fields-name l [] i (rw (split-last TAB l (omega (arith, first_le (is TAB) l))) at e))
     go (no h) =
         omega (arith, length-take k l, fields-name (take k l) (split TAB (drop (suc k) l)) i (rw (split_step TAB l (omega arith)) at e))
-
-pub name-end : (index : List ℕ) (a e : ℕ) {i : IndexLine} → line_of (part a e index) ≡ Some i → a ≤ e → a + i.name ≤ e
-name-end index a e {i} f h = omega (arith, name-within (part a e index) i f, part_length index a e)
 
 name-part : (index : List ℕ) (a e n : ℕ) → a + n ≤ e → take n (part a e index) ≡ part a (a + n) index
 name-part index a e n h =
@@ -134,54 +132,74 @@ records-count index e =
     let l = pieces-length 1 (pieces index) (omega arith) (omega (arith, split-count LF index)) e in
     omega (arith, split-count LF index)
 
--- at a line that is ill formed, at the last one, and at a record
-module _ {index rows : List ℕ} {n a : ℕ} (u : Upto index rows n a) (e : ℕ) where
-  module _ (p : pieces (drop a index) ≡ part a e index ∷ []) where
-    pub read_open : a < e → e ≤ length index → Err (n + 1) ≡ index_read index
-    read_open h k = read_bad index (omega arith) (last_open index (n + 1) a e p h k ∙ u.judged)
+-- what follows the last LF; and of the lines that an LF ends, one that is ill formed, and a record
+module _ {index rows : List ℕ} {n a : ℕ} (u : Upto index rows n a) {left : List (List ℕ)} (q : left ≡ ended (drop a index)) where
+  module _ (p : left ≡ []) where
+    last : pieces (drop a index) ≡ part a (length index) index ∷ []
+    last = ended_none index a u.within (sym q ∙ p)
 
-    none_left : a ≡ e → records_from (pieces (drop a index)) ≡ []
-    none_left h = rw p (no_record (part a e index) (omega (arith, part_length index a e)))
+    pub read_open : a < length index → Err (n + 1) ≡ index_read index
+    read_open h = read_bad index (omega arith) (last_open index (n + 1) a (length index) last h (omega arith) ∙ u.judged)
 
-    all_counted : a ≡ e → n ≡ length (records index)
-    all_counted h = rw (none_left h, add-zero) at u.counted
+    module _ (h : length index ≤ a) where
+      at-end : a ≡ length index
+      at-end = omega (arith, u.within)
 
-    pub read_all : a ≡ e → Ok n ≡ index_read index
-    read_all h = read_good index (last_empty index (n + 1) a e p h ∙ u.judged) (all_counted h)
+      none_left : records_from (pieces (drop a index)) ≡ []
+      none_left = rw last (no_record (part a (length index) index) (omega (arith, part_length index a (length index))))
 
-    pub told_all : a ≡ e → n ≤ 64 → AreRows index rows
-    told_all h few =
-        let c = all_counted h in
-        record { same = rw (← c) (rw (none_left h, append-nil) at (u.same few)); named = rw (← c) (u.named few) }
+      all_counted : n ≡ length (records index)
+      all_counted = rw (none_left, add-zero) at u.counted
 
-  module _ (p : pieces (drop a index) ≡ part a e index ∷ pieces (drop (e + 1) index)) where
-    pub read_ill : line_of (part a e index) ≡ None → Err (n + 1) ≡ index_read index
-    read_ill h = read_bad index (omega arith) (sym (rw h at (next-piece index (n + 1) a e p)) ∙ u.judged)
+      pub read_all : Ok n ≡ index_read index
+      read_all = read_good index (last_empty index (n + 1) a (length index) last at-end ∙ u.judged) all_counted
 
-    module _ {i : IndexLine} (h : line_of (part a e index) ≡ Some i) where
-      one_more : records_from (pieces (drop a index)) ≡ entry (take i.name (part a e index)) i.start i.size ∷ records_from (pieces (drop (e + 1) index))
+      pub told_all : n ≤ 64 → AreRows index rows
+      told_all few =
+          record { same = rw (← all_counted) (rw (none_left, append-nil) at (u.same few)); named = rw (← all_counted) (u.named few) }
+
+  module _ {l : List ℕ} {more : List (List ℕ)} (p : left ≡ l ∷ more) where
+    line : EndedAt index a l more
+    line = ended_at index a u.within (sym q ∙ p)
+
+    behind : a + (length l + 1) ≡ a + length l + 1
+    behind = omega arith
+
+    pub lines_more : more ≡ ended (drop (a + (length l + 1)) index)
+    lines_more = rw behind line.more
+
+    pub read_ill : line_of l ≡ None → Err (n + 1) ≡ index_read index
+    read_ill h = read_bad index (omega arith) (sym (rw (← line.whole, h) at (next-piece index (n + 1) a (a + length l) line.piece)) ∙ u.judged)
+
+    module _ {i : IndexLine} (h : line_of l ≡ Some i) where
+      pub name_within : a + i.name ≤ length index
+      name_within = omega (arith, name-within l i h, line.before)
+
+      name : take i.name l ≡ part a (a + i.name) index
+      name = ap (take i.name) line.whole ∙ name-part index a (a + length l) i.name (omega (arith, name-within l i h))
+
+      one_more : records_from (pieces (drop a index)) ≡ entry (take i.name l) i.start i.size ∷ records_from (pieces (drop (a + length l + 1) index))
       unfolding records_from
-      one_more = rw (p, h)
+      one_more = rw (line.piece, ← line.whole, h)
 
-      pub read_turn : {rows' : List ℕ} → a ≤ e → e < length index → rows' ≡ put_row rows n (row a (a + i.name) i.start i.size)
-          → Upto index rows' (n + 1) (e + 1)
-      read_turn {rows'} k l w =
-          let l-end : a + i.name ≤ e = name-end index a e h k in
+      pub read_turn : {rows' : List ℕ} → rows' ≡ put_row rows n (row a (a + i.name) i.start i.size)
+          → Upto index rows' (n + 1) (a + (length l + 1))
+      read_turn {rows'} w =
           let before : (j : ℕ) → j < n → row_at rows' j ≡ row_at rows j = λ j t. ap (λ (x : List ℕ). row_at x j) w ∙ row_before rows n (row a (a + i.name) i.start i.size) j t in
           let here : n + 1 ≤ 64 → row_at rows' n ≡ row a (a + i.name) i.start i.size = λ few. ap (λ (x : List ℕ). row_at x n) w ∙ row_written rows n (row a (a + i.name) i.start i.size) (omega arith) u.whole in
-          record {
+          rw behind (record {
             whole = ap length w ∙ rows_length rows n (row a (a + i.name) i.start i.size) ∙ u.whole;
-            within = omega arith;
+            within = omega (arith, line.before);
             short = omega (arith, u.short);
-            judged = sym (rw h at (next-piece index (n + 1) a e p)) ∙ u.judged;
+            judged = sym (rw (← line.whole, h) at (next-piece index (n + 1) a (a + length l) line.piece)) ∙ u.judged;
             counted = omega (arith, u.counted, ap length one_more);
             same = λ few.
-                rw (records_more index rows' n, records-same index rows' rows 0 n (λ j t. before j (omega arith)), ap (record_of index) (here few), append_assoc, ← name-part index a e i.name l-end, ← one_more)
+                rw (records_more index rows' n, records-same index rows' rows 0 n (λ j t. before j (omega arith)), ap (record_of index) (here few), append_assoc, ← name, ← one_more)
                 (u.same (omega arith));
             named = λ few. record {
               forward = below_more (λ j. (row_at rows' j).name ≤ (row_at rows' j).end) n (λ j t. row-forward (before j t) ((u.named (omega arith)).forward j t)) (row-forward (here few) (omega arith));
-              within = below_more (λ j. (row_at rows' j).end ≤ length index) n (λ j t. row_within (before j t) (length index) ((u.named (omega arith)).within j t)) (row_within (here few) (length index) (omega arith));
+              within = below_more (λ j. (row_at rows' j).end ≤ length index) n (λ j t. row_within (before j t) (length index) ((u.named (omega arith)).within j t)) (row_within (here few) (length index) name_within);
             };
-          }
+          })
 
-pub ruleset reading = (read_start, read_open, read_all, read_ill, name-end, eqb-false)
+pub ruleset reading = (read_start, read_open, read_all, read_ill, name_within)

@@ -50,27 +50,23 @@ pub fn read(index: &[u8], rows: &mut [usize; 256]) -> Result<usize, usize>
 {
     *rows = [0usize; 256];
     let mut n = 0;
-    let mut a = 0;
-    loop {
-        let p = lines::piece(index, a);
-        let e = p.end;
-        if p.last {
-            if a == e {
-                return Ok(n);
-            }
-            return Err(n + 1);
-        }
-        let fields = line::read_line(&index[a..e]).ok_or(n + 1)?;
+    let mut at = 0;
+    for line in lines::ended(index) {
+        let fields = line::read_line(line).ok_or(n + 1)?;
         let row = Row {
-            name: a,
-            end: a + fields.name,
+            name: at,
+            end: at + fields.name,
             start: fields.start,
             size: fields.size,
         };
         put_row(rows, n, row);
         n += 1;
-        a = e + 1;
+        at += line.len() + 1;
     }
+    if at < index.len() {
+        return Err(n + 1);
+    }
+    Ok(n)
 }
 
 // The first record of a name among so many, counted from 0.

@@ -7,8 +7,8 @@ ghost use Rattle.book.specs.Promises.{ScanCall, FillCall, AssembleCall, BookCall
 pub fn jilgyemot_scan(text: &[u8], out: &mut [u8], answer: &mut [u64; 6])
     ensures { ScanCall text.now out.old answer.new out.new }
 {
-    let a = listing::scan(text, out);
-    *answer = answer::numbers(a);
+    let scanned = listing::scan(text, out);
+    *answer = answer::numbers(scanned);
 }
 
 // A fill of a host: its text in the output, its answer as six numbers.

@@ -1,4 +1,4 @@
-// Numbers in and out: the states, kinds and levels of the library as numbers.
+// Numbers in and out: the states, kinds and levels of the library as numbers, since the C calls that tests make hand over nothing else.
 ghost use Rattle.std.specs.Prelude.{◌≡◌};
 ghost use Rattle.leaf.specs.Leaf.{fence_of, state_of, fence_number, step_numbers, one as one_number, top_number, top_of, moved_numbers, moved_of};
 

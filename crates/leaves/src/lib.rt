@@ -52,7 +52,7 @@ pub extern "C" fn leaf_shallowest(text: &[u8], answer: &mut [u64; 6])
     *answer = number::one(number::of_top(found));
 }
 
-// The level that a heading moves to: 1 and the level, 0 if that is None of 1 to 6, 2 if an argument is None.
+// The level that a heading moves to: 1 and the level, 0 if that is none of 1 to 6, 2 if an argument is none.
 #[unsafe(no_mangle)]
 pub extern "C" fn leaf_moved(target: u64, shallowest: u64, level: u64, answer: &mut [u64; 6])
     ensures { answer.new ≡ moved_of target shallowest level }

@@ -1,8 +1,7 @@
 #![tactic(auto)]
 
 // Reads what arguments name into buffers, and makes the index of the notes. What fails is said on standard error.
-ghost use Rattle.std.specs.Prelude.{◌+◌, ◌≤◌, length, IfOk};
-ghost use Rattle.notes.specs.Notes.{Moved, Ends};
+ghost use Rattle.std.specs.Prelude.{◌+◌, ◌≤◌, length, IfOk, IfSome};
 
 use station::{failed, record, shown};
 use std::env::Env;
@@ -12,87 +11,61 @@ use std::{fs, io, str};
 
 pub mod buffers;
 
-// Where a file that was read ends in its buffer; or that it can't be read, or that there is no room for it.
+// Why a file was not read.
 #[derive(Clone, Copy)]
-pub enum Reading {
-    To(usize),
-    Unreadable,
+enum Unread {
+    Failed(io::Error),
     TooLarge,
 }
 
-// What one read gave: so many bytes, the file's end, or that there is no room.
-#[derive(Clone, Copy)]
-enum Turn {
-    More(usize),
-    End,
-    Full,
+impl From<io::Error> for Unread {
+    fn from(error: io::Error) -> Self {
+        Unread::Failed(error)
+    }
 }
 
-// Whether a file ends where its buffer does.
-fn read_past(from: &mut impl Read) -> io::Result<Turn>
-    ensures { IfOk result (Moved 0) }
-{
-    let mut one = [0u8; 1];
-    if from.read(&mut one)? == 0 {
-        return Ok(Turn::End);
-    }
-    Ok(Turn::Full)
-}
-
-// One read into the rest of a buffer.
-fn read_more(from: &mut impl Read, rest: &mut [u8]) -> io::Result<Turn>
-    ensures { IfOk result (Moved (length rest.old)) }
-{
-    if rest.len() == 0 {
-        return read_past(from);
-    }
-    let n = from.read(rest)?;
-    if n == 0 {
-        return Ok(Turn::End);
-    }
-    Ok(Turn::More(n))
-}
-
-// Reads a file to its end into a buffer, from a place on.
-fn read_all(from: &mut impl Read, buf: &mut [u8], at: usize) -> io::Result<Reading>
+// Reads a file to its end into a buffer, from a place on, and answers where it ends there.
+fn read_all(from: &mut impl Read, buf: &mut [u8], at: usize) -> Result<usize, Unread>
     requires { at ≤ length buf.old }
-    ensures { IfOk result (Ends at (length buf.old)) }
+    ensures { IfOk result (λ end. (at ≤ end) × (end ≤ length buf.old)) }
 {
     let mut end = at;
-    loop {
-        match read_more(from, &mut buf[end..])? {
-            Turn::More(n) => {
-                end += n;
-            }
-            Turn::End => return Ok(Reading::To(end)),
-            Turn::Full => return Ok(Reading::TooLarge),
+    while end < buf.len() {
+        let n = from.read(&mut buf[end..])?;
+        if n == 0 {
+            return Ok(end);
         }
+        end += n;
+    }
+    if from.read(&mut [0u8; 1])? == 0 {
+        Ok(end)
+    } else {
+        Err(Unread::TooLarge)
     }
 }
 
 // Opens a file by its name and reads it to its end into a buffer, from a place on.
-fn read_named(files: &impl Files, name: &[u8], buf: &mut [u8], at: usize) -> io::Result<Reading>
+fn read_named(files: &impl Files, name: &[u8], buf: &mut [u8], at: usize) -> Result<usize, Unread>
     requires { at ≤ length buf.old }
-    ensures { IfOk result (Ends at (length buf.old)) }
+    ensures { IfOk result (λ end. (at ≤ end) × (end ≤ length buf.old)) }
 {
-    let Ok(path) = str::from_utf8(name) else {
-        return Err(io::Error::new(
+    let path = str::from_utf8(name).map_err(|_| {
+        io::Error::new(
             ErrorKind::InvalidFilename,
             "the name is not UTF-8: rename the file",
-        ));
-    };
+        )
+    })?;
     read_all(&mut fs::open(files, path)?, buf, at)
 }
 
 // Says why a file was not read.
-fn say_unread(to: &mut impl Write, name: &[u8], reading: io::Result<Reading>) -> io::Result<()> {
-    match reading {
-        Ok(Reading::TooLarge) => {
+fn say_unread(to: &mut impl Write, name: &[u8], unread: Unread) -> io::Result<()> {
+    match unread {
+        Unread::Failed(error) => failed::say_failed(to, name, error),
+        Unread::TooLarge => {
             to.write_all(name)?;
             to.write_all(b": there is no room left for it\n")
         }
-        Ok(_) => Ok(()),
-        Err(e) => failed::say_failed(to, name, e),
     }
 }
 
@@ -103,27 +76,29 @@ fn say_no_name(to: &mut impl Write, i: usize) -> io::Result<()> {
     to.write_all(b" is empty or too long\n")
 }
 
-// Reads the file that an argument names into a buffer, from a place on. What fails is said on a writer.
+// Reads the file that an argument names into a buffer, from a place on, and answers where it ends there. What fails is said on a writer.
 pub fn read_argument<R: Env + Files>(
     rt: &R,
     to: &mut impl Write,
     i: usize,
     buf: &mut [u8],
     at: usize,
-) -> Reading
+) -> Option<usize>
     requires { at ≤ length buf.old }
-    ensures { Ends at (length buf.old) result }
+    ensures { IfSome result (λ end. (at ≤ end) × (end ≤ length buf.old)) }
 {
     let mut name = [0u8; 4096];
     let n = rt.arg(i, &mut name).unwrap_or(0);
     if n == 0 {
         let _ = say_no_name(to, i);
-        return Reading::Unreadable;
+        return None;
     }
-    let reading = read_named(rt, &name[..n], buf, at);
-    shown::show(&mut name);
-    let _ = say_unread(to, &name[..n], reading);
-    reading.unwrap_or(Reading::Unreadable)
+    let read = read_named(rt, &name[..n], buf, at);
+    if let Err(unread) = read {
+        shown::show(&mut name);
+        let _ = say_unread(to, &name[..n], unread);
+    }
+    read.ok()
 }
 
 // Writes the record of the note that an argument names at a place of an index, and answers the place after it. What is no name is left
@@ -141,10 +116,12 @@ fn put_record(
 {
     let mut name = [0u8; 255];
     let n = env.arg(i, &mut name).unwrap_or(0);
-    if index::name::is_name(&name[..n]) {
-        return record::put_record(index, at, &name[..n], start, size);
-    }
-    record::put_record(index, at, b"", start, size)
+    let kept = if index::name::is_name(&name[..n]) {
+        n
+    } else {
+        0
+    };
+    record::put_record(index, at, &name[..kept], start, size)
 }
 
 // Reads the note that an argument names. One whose name is not UTF-8 can't be opened, and is read as an empty one: its record has no name,
@@ -155,14 +132,14 @@ fn read_note<R: Env + Files>(
     i: usize,
     buf: &mut [u8],
     at: usize,
-) -> Reading
+) -> Option<usize>
     requires { at ≤ length buf.old }
-    ensures { Ends at (length buf.old) result }
+    ensures { IfSome result (λ end. (at ≤ end) × (end ≤ length buf.old)) }
 {
     let mut name = [0u8; 4096];
     let n = rt.arg(i, &mut name).unwrap_or(0);
     if str::from_utf8(&name[..n]).is_err() {
-        return Reading::To(at);
+        return Some(at);
     }
     read_argument(rt, to, i, buf, at)
 }
@@ -177,21 +154,17 @@ pub fn read_notes<R: Env + Files>(
     index: &mut [u8],
     contents: &mut [u8],
     starts: &mut [usize; 65],
-) -> Reading
+) -> Option<usize>
     requires { (first ≤ 7) × ((count ≤ 64) × (19072 ≤ length index.old)) }
-    ensures { Ends 0 (length index.old) result }
+    ensures { IfSome result (λ end. end ≤ length index.old) }
 {
     let mut indexed = 0;
     let mut end = 0;
-    let mut k = 0;
-    while k < count {
-        let Reading::To(e) = read_note(rt, to, first + k, contents, end) else {
-            return Reading::Unreadable;
-        };
-        indexed = put_record(rt, first + k, index, indexed, end, e - end);
-        end = e;
-        k += 1;
-        starts[k] = end;
+    for k in 0..count {
+        let start = end;
+        end = read_note(rt, to, first + k, contents, start)?;
+        indexed = put_record(rt, first + k, index, indexed, start, end - start);
+        starts[k + 1] = end;
     }
-    Reading::To(indexed)
+    Some(indexed)
 }

@@ -8,7 +8,7 @@ ghost use Rattle.path.specs.Backward.{Back, LastPart, Within, in_dir, from_end, 
 
 use text::{bytes, pattern};
 
-// A part that is kept, by its ends, or none and how many parts are still to be dropped.
+// A part that is kept, by its ends, or none and how many parts are still to be dropped. No Result, since neither is a failure.
 #[derive(Clone, Copy)]
 pub enum BackPart {
     Kept { start: usize, end: usize },

@@ -12,7 +12,6 @@ use put::line::NewText;
 use put::{Room, Source};
 
 pub mod line;
-mod read;
 
 // What stands before a line's text: an LF, and a heading's hashes and space.
 fn put_start(level: usize, room: Room, work: &mut [u8]) -> Option<usize>
@@ -70,16 +69,21 @@ pub fn put_lines(
     let mut a = 0;
     let mut state = heading::walk::begin();
     loop {
-        let w = read::line_in(contents, work, source, a, state, shift);
-        let new = w.text;
-        let Some(n) = put_line(contents, source, new, dir, host, Room { at, limit }, work) else {
-            return None;
-        };
-        if w.last {
-            return Some(n);
+        let text = source.bytes(contents, work);
+        let line = line::line_at(text, a, state, shift);
+        at = put_line(
+            contents,
+            source,
+            line.text,
+            dir,
+            host,
+            Room { at, limit },
+            work,
+        )?;
+        if line.last {
+            return Some(at);
         }
-        at = n;
-        a = w.end + 1;
-        state = w.state;
+        a = line.end + 1;
+        state = line.state;
     }
 }

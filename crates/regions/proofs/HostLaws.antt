@@ -23,8 +23,9 @@ use Rattle.scan.specs.Regions as found
 use Rattle.scan.specs.declared.event.Region.{Region}
 use Rattle.scan.specs.declared.region.Cursor.{Cursor}
 use Rattle.heading.specs.Level.{shallowest_of, IsLevel}
-use Rattle.heading.specs.Walk.{walk_begin, step_after, kinds_from, states_after}
+use Rattle.heading.specs.Walk.{walk_begin, kinds_from, states_after}
 use Rattle.heading.specs.declared.walk.WalkState.{WalkState}
+use Rattle.heading.proofs.WalkLaws.{kinds_length}
 use Rattle.heading.proofs.LevelLaws.{level-lines}
 use Rattle.heading.proofs.StillLaws.{kinds_append, states_append, shallowest_append, blanks-state}
 use Rattle.index.specs.Index.{file_of}
@@ -59,12 +60,6 @@ host-start s = record {
 -- and where a cursor stands
 pub host-within : {s : List ℕ} {c : HostCursor} → HostAt s c → (c.at ≤ length s) × (c.from ≤ length s)
 host-within a = (a.line.within, omega (arith, a.line.within, a.order.0))
-
--- a kind for each line
-kinds_length : (st : WalkState) (ls : List (List ℕ)) → length (kinds_from st ls) ≡ length ls
-unfolding kinds_from
-kinds_length st [] = refl
-kinds_length st (l ∷ ls) = ap suc (kinds_length (step_after st.fence st.comment l) ls)
 
 -- the kinds of the first lines
 kinds_first : (st : WalkState) (ls us : List (List ℕ)) (n : ℕ) → length ls ≡ n → take n (kinds_from st (ls ++ us)) ≡ kinds_from st ls

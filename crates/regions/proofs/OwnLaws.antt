@@ -14,7 +14,6 @@ use Rattle.heading.specs.declared.walk.LineKind.TheVariants.{Quoted, Heading, Ot
 use Rattle.heading.specs.declared.walk.WalkState.{WalkState}
 use Rattle.heading.proofs.LevelLaws.{level-step}
 use Rattle.heading.proofs.StillLaws.{still-shallower, gather_blanks, states_append, blanks-state}
-use Rattle.text.proofs.LineLaws.{before-end}
 use Rattle.regions.specs.Regions.{newer, last_level}
 use Rattle.regions.specs.Own.{own_step, own_after}
 use Rattle.regions.specs.declared.own.Own.{Own}
@@ -58,11 +57,7 @@ own-blanks n w ls =
     own_is w (replicate n [] ++ ls)
     ∙ rw (states_append w.state (replicate n []) ls, blanks-state n w.state, last-blanks n w.above w.state ls, shallowest_blanks n w.top w.state ls) (sym (own_is w ls))
 
--- one turn of the walk over pieces
-pub own_turn : (w : Own) (l : List ℕ) (ls : List (List ℕ)) {v : Own} {ps : List (List ℕ)} → ps ≡ l ∷ ls → v ≡ own_step w l → own_after v ls ≡ own_after w ps
-unfolding own_after
-own_turn w l ls p e = rw (p, e)
-
+-- behind no line
 pub own-none : (w : Own) → own_after w [] ≡ w
 unfolding own_after
 own-none w = refl
@@ -90,5 +85,3 @@ last_nothing b (Heading n a e ∷ ks) h =
     let q : Some n ≡ None = (last_nothing (Some n) ks h).0 in
     let z : ◌≡◌ {A = ℕ} 0 1 = cc in
     absurd (omega arith)
-
-pub ruleset turns = (own_turn, own-none, before-end)

@@ -42,20 +42,15 @@ fn own_step(w: Own, line: &[u8]) -> Own
 }
 
 // The walk over the lines of s.
-#[tactic(auto, using(crate::proofs::OwnLaws::turns))]
+#[tactic(auto, unfolding(crate::specs::Own::own_after))]
 fn own_after(s: &[u8], w: Own) -> Own
     ensures { result ≡ own_after w (pieces s.now) }
 {
     let mut own = w;
-    let mut a = 0;
-    loop {
-        let piece = lines::piece(s, a);
-        own = own_step(own, &s[a..piece.end]);
-        if piece.last {
-            return own;
-        }
-        a = piece.end + 1;
+    for line in lines::pieces(s) {
+        own = own_step(own, line);
     }
+    own
 }
 
 // The next region from a cursor on, with the walk over the lines before it.

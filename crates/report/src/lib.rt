@@ -18,12 +18,12 @@ fn argument_of(url: usize, number: u64, file: usize, line: usize) -> usize
     ensures { result ≡ argument_of url number file line }
 {
     if 0 < file {
-        return url + 1 + file;
+        url + 1 + file
+    } else if number <= 4 {
+        url + 1 + line
+    } else {
+        url + 1
     }
-    if number <= 4 {
-        return url + 1 + line;
-    }
-    url + 1
 }
 
 // A file's or a line's number, which is never past 32 bits.
@@ -31,10 +31,7 @@ fn argument_of(url: usize, number: u64, file: usize, line: usize) -> usize
 fn bounded(n: u64) -> usize
     ensures { (result ≡ bounded_of n) × (result ≤ 4294967295) }
 {
-    if 4_294_967_295 < n {
-        return 0;
-    }
-    n as usize
+    if n <= 4_294_967_295 { n as usize } else { 0 }
 }
 
 fn say_argument(env: &impl Env, to: &mut impl Write, i: usize) -> io::Result<()> {
@@ -89,18 +86,18 @@ pub fn say_refusal(
 ) -> io::Result<()>
     requires { url ≤ 71 }
 {
-    let number = numbers[1];
-    let file = bounded(numbers[2]);
-    let line = bounded(numbers[3]);
+    let [_, number, file, line, second_file, second_line] = numbers;
+    let file = bounded(file);
+    let line = bounded(line);
     say_place(env, to, url, number, file, line)?;
     words::say_first(to, number)?;
     if number == 19 {
-        let other = bounded(numbers[4]);
-        say_argument(env, to, argument_of(url, number, other, 0))?;
-        say_line(to, bounded(numbers[5]))?;
+        let second = argument_of(url, number, bounded(second_file), 0);
+        say_argument(env, to, second)?;
+        say_line(to, bounded(second_line))?;
     } else if words::has_name(number) {
         named::say_named(to, file, line, starts, contents, list)?;
     }
     words::say_last(to, number)?;
-    write!(to, " (refusal {number})\n")
+    writeln!(to, " (refusal {number})")
 }

@@ -6,40 +6,33 @@ use std::io::Write;
 // A text as it is shown, if it is no longer than a path.
 fn say_shown(to: &mut impl Write, s: &[u8]) -> io::Result<()> {
     let mut path = [0u8; 4096];
-    let n = s.len();
-    if 4096 < n {
+    if path.len() < s.len() {
         return to.write_all(b"a path of more than 4,096 bytes");
     }
-    buffer::copy(s, &mut path, 0);
+    let n = buffer::copy(s, &mut path, 0);
     shown::show(&mut path);
     to.write_all(&path[..n])
 }
 
 // The path of a region's opener.
 fn say_path(to: &mut impl Write, opener: &[u8]) -> io::Result<()> {
-    let p = line::named_on(opener);
-    let start = p.start;
-    let end = p.end;
-    say_shown(to, &opener[start..end])
+    let path = line::named_on(opener);
+    say_shown(to, &opener[path.start..path.end])
 }
 
 // The path of the region that opens on a line of a note.
 fn say_named_on(to: &mut impl Write, note: &[u8], number: usize) -> io::Result<()> {
-    let l = line::line_at(note, number);
-    let start = l.start;
-    let end = l.end;
-    say_path(to, &note[start..end])
+    let opener = line::line_at(note, number);
+    say_path(to, &note[opener.start..opener.end])
 }
 
 // A line of the list, which is a name whatever stands on it.
 fn say_listed(to: &mut impl Write, list: &[u8], number: usize) -> io::Result<()> {
-    let l = line::line_at(list, number);
-    let start = l.start;
-    let end = l.end;
-    if start == end {
+    let name = line::line_at(list, number);
+    if name.start == name.end {
         return to.write_all(b"an empty name");
     }
-    say_shown(to, &list[start..end])
+    say_shown(to, &list[name.start..name.end])
 }
 
 // The file that is named at a place: by a note's region, or by the list. Where each note starts in the contents and the one before it ends.
@@ -57,10 +50,8 @@ pub fn say_named(
     if 64 < file {
         return Ok(());
     }
-    let start = starts[file - 1];
-    let end = starts[file];
-    if start <= end && end <= contents.len() {
-        return say_named_on(to, &contents[start..end], line);
+    match contents.get(starts[file - 1]..starts[file]) {
+        Some(note) => say_named_on(to, note, line),
+        None => Ok(()),
     }
-    Ok(())
 }

@@ -14,13 +14,12 @@ const MOST: usize = 4_000;
 
 // A file's name as the system's calls take it.
 fn path_of(name: &[u8]) -> io::Result<&str> {
-    match str::from_utf8(name) {
-        Ok(path) => Ok(path),
-        Err(_) => Err(io::Error::new(
+    str::from_utf8(name).map_err(|_| {
+        io::Error::new(
             ErrorKind::InvalidFilename,
             "the name is not UTF-8: give the book another",
-        )),
-    }
+        )
+    })
 }
 
 // Writes a text to an open file. It has reached the disk then.
@@ -71,8 +70,7 @@ fn replace(
         return false;
     }
     if let Err(e) = rename(files, beside, name) {
-        let n = name.len();
-        let _ = failed::say_failed(to, &shown[..n], e);
+        let _ = failed::say_failed(to, &shown[..name.len()], e);
         return false;
     }
     true
@@ -139,22 +137,15 @@ fn is_given(
     false
 }
 
-fn no_name(to: &mut impl Write) -> bool {
-    let _ = to.write_all(b"stationbook: the name of the book is empty or too long\n");
-    false
-}
-
 // Whether a book can go to the file that an argument names: the name is one, and none of so many arguments from one on.
 pub fn can_save(env: &impl Env, to: &mut impl Write, i: usize, first: usize, count: usize) -> bool
     requires { (first ≤ 7) × (count ≤ 65) }
 {
     let mut name = [0u8; 4096];
     let n = env.arg(i, &mut name).unwrap_or(0);
-    if n == 0 {
-        return no_name(to);
-    }
-    if MOST < n {
-        return no_name(to);
+    if n == 0 || MOST < n {
+        let _ = to.write_all(b"stationbook: the name of the book is empty or too long\n");
+        return false;
     }
     let mut beside = name;
     let end = buffer::copy(b".part", &mut beside, n);

@@ -4,11 +4,13 @@ use Rattle.std.specs.Option.{is_some}
 use Prim.Native.Nat.{ℕ, zero, suc, ◌+◌, ◌≤◌}
 use native.Mathlib.Omega.{arith}
 use mathlib.Core.Path.{◌≡◌, refl, sym, subst, ap, ◌∙◌}
-use mathlib.Core.Bool.{Bool, true, false, or-false, false≢true}
+use mathlib.Core.Bool.{Bool, true, false, false≢true}
 use mathlib.Core.List.{List, [], ◌∷◌}
 use lib.ListN.{length}
 use lib.IntN.{ℤ, pos, ◌+ℤ◌}
 use lib.Signed.{mag}
+use Rattle.std.specs.List.{All}
+use Rattle.std.proofs.lemmas.List.Elements.{All-nil, All-cons}
 use Rattle.text.specs.Lines.{pieces}
 use Rattle.fence.specs.declared.Fence.{Fence}
 use Rattle.heading.specs.Walk.{walk_begin, step_kind, step_after, kinds_from}
@@ -43,11 +45,12 @@ deepest-small b st (l ∷ ls) q =
     let k : LineKind = step_kind st.fence st.comment l in
     deepest-small (deeper b k) (step_after st.fence st.comment l) ls (deeper-small b k (step-level st.fence st.comment l) q)
 
--- the kinds of lines, by the first line
-pub kinds_turn : (st : WalkState) (l : List ℕ) (ls : List (List ℕ)) {st' : WalkState} {k : LineKind} {ps : List (List ℕ)} → ps ≡ l ∷ ls
-    → k ≡ step_kind st.fence st.comment l → st' ≡ step_after st.fence st.comment l → kinds_from st ps ≡ k ∷ kinds_from st' ls
+-- so does each line of a text
+pub kinds-level : (st : WalkState) (ls : List (List ℕ)) → All HasLevel (kinds_from st ls)
 unfolding kinds_from
-kinds_turn st l ls p e f = rw (p, e, f)
+kinds-level st [] = All-nil HasLevel
+kinds-level st (l ∷ ls) =
+    All-cons HasLevel _ _ (step-level st.fence st.comment l) (kinds-level (step_after st.fence st.comment l) ls)
 
 -- the levels found, with those of the lines that are left, are the levels of all
 pub record Found (ks rest : List LineKind) (top : Option ℕ) (deepest : ℕ) : Type 0 where
@@ -59,14 +62,16 @@ pub found_turn : {ks rest more : List LineKind} {k : LineKind} {t u : Option ℕ
 unfolding shallowest_of deepest_of
 found_turn f p q r = record { shallow = rw q (rw p at f.shallow); deep = rw r (rw p at f.deep) }
 
-pub found_all : (s : List ℕ) (st : WalkState) {t : Option ℕ} {d : ℕ} → Found (kinds_in s) (kinds_from st []) t d → AreLevels (kinds_in s) t d
-unfolding shallowest_of deepest_of kinds_from
-found_all s st f =
+pub found_all : (s : List ℕ) {rest : List LineKind} {t : Option ℕ} {d : ℕ} → Found (kinds_in s) rest t d → rest ≡ [] → AreLevels (kinds_in s) t d
+unfolding shallowest_of deepest_of
+found_all s f e =
+    let top = rw e at f.shallow in
+    let deepest = rw e at f.deep in
     record {
-      shallow = f.shallow;
-      deep = f.deep;
-      level = subst IsLevel (sym f.shallow) (level-lines None walk_begin (pieces s) tt);
-      small = omega (arith, f.deep, deepest-small 0 walk_begin (pieces s) (omega arith));
+      shallow = top;
+      deep = deepest;
+      level = subst IsLevel (sym top) (level-lines None walk_begin (pieces s) tt);
+      small = omega (arith, deepest, deepest-small 0 walk_begin (pieces s) (omega arith));
     }
 
 -- one of the lines that are left goes past, and line n, counted from 1, is the first of them
@@ -87,10 +92,10 @@ module _ {z : ℤ} {ks rest more : List LineKind} {k : LineKind} {n : ℕ} (h : 
       let e : n + suc (first_past z more) ≡ 1 + first_past z ks = rw (p, ← q) at h.count in
       record { some = rw (p, ← q) at h.some; count = omega arith }
 
--- it is the last line
-pub ahead_last : {z : ℤ} {ks rest : List LineKind} {k : LineKind} {n : ℕ} (st : WalkState) → Ahead z ks rest n → rest ≡ k ∷ kinds_from st [] → n ≡ 1 + first_past z ks
-unfolding any_past kinds_from
-ahead_last {z} {k = k} st h p = ahead_here h p (sym (rw (p, or-false) at h.some))
+-- none is left that goes past
+pub ahead_end : {z : ℤ} {ks rest : List LineKind} {n : ℕ} {p : Type 0} → Ahead z ks rest n → rest ≡ [] → p
+unfolding any_past
+ahead_end h e = absurd (false≢true (rw e at h.some))
 
 -- x is the shift to a target
 module _ (s : List ℕ) (target : ℕ) {top : Option ℕ} {d : ℕ} (a : AreLevels (kinds_in s) top d) (x : ℤ) (r : x ≡ shift_of target top) where

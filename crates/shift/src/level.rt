@@ -6,7 +6,6 @@ ghost use Rattle.shift.specs.Levels.{HasLevel, kinds_in, AreLevels, ShiftTo};
 
 use heading::walk::LineKind;
 use heading::{level, walk};
-use text::lines;
 
 // The shallowest level of headings, and the deepest, 0 where there is none.
 #[derive(Clone, Copy)]
@@ -42,18 +41,10 @@ fn levels_of(s: &[u8]) -> Levels
         top: None,
         deepest: 0,
     };
-    let mut state = walk::begin();
-    let mut start = 0;
-    loop {
-        let line = lines::piece(s, start);
-        let walked = walk::step(state, &s[start..line.end]);
-        found = with_line(found, walked.kind);
-        if line.last {
-            return found;
-        }
-        state = walked.state;
-        start = line.end + 1;
+    for kind in walk::kinds(s) {
+        found = with_line(found, kind);
     }
+    found
 }
 
 // Whether a shift takes a level past 1 to 6.
@@ -81,18 +72,13 @@ fn past_line(s: &[u8], shift: i32) -> usize
     ensures { result ≡ 1 + first_past shift (kinds_in s.now) }
 {
     let mut number = 1;
-    let mut state = walk::begin();
-    let mut start = 0;
-    loop {
-        let line = lines::piece(s, start);
-        let walked = walk::step(state, &s[start..line.end]);
-        if line.last || goes_past(walked.kind, shift) {
+    for kind in walk::kinds(s) {
+        if goes_past(kind, shift) {
             return number;
         }
         number += 1;
-        state = walked.state;
-        start = line.end + 1;
     }
+    number
 }
 
 // The shift of a text's headings that takes the shallowest to the target; or the first line whose

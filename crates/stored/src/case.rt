@@ -88,6 +88,9 @@ fn replay_texts<F: Fn(Case<'_>, &mut [u8], &mut [u8]) -> [u64; 6]>(
     let mut given = [0u8; 16384];
     let mut out = [0u8; 65536];
     let mut work = [0u8; 65536];
+    let (Some(out), Some(work)) = (out.get_mut(..sizes.out), work.get_mut(..sizes.work)) else {
+        return Ok(false);
+    };
     let end = sizes
         .index
         .saturating_add(sizes.contents)
@@ -100,9 +103,6 @@ fn replay_texts<F: Fn(Case<'_>, &mut [u8], &mut [u8]) -> [u64; 6]>(
         return Ok(false);
     }
     let Some(case) = case_of(&given, sizes) else {
-        return Ok(false);
-    };
-    let (Some(out), Some(work)) = (out.get_mut(..sizes.out), work.get_mut(..sizes.work)) else {
         return Ok(false);
     };
     let numbers = call(case, out, work);

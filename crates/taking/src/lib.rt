@@ -20,7 +20,7 @@ use regions::host;
 use regions::host::HostCursor;
 use survey::Surveyed;
 
-// Where a fill stands: behind a region or at the start, with how long its text is and the files taken in; or it is done.
+// Where a fill stands: behind a region or at the start, with how long its text is and the files taken in; or it is done. No Result, since neither is a failure.
 #[derive(Clone, Copy)]
 pub enum Stand {
     On {

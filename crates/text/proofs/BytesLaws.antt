@@ -6,8 +6,8 @@ use native.Mathlib.Numerals.{add-one, sub-one}
 use native.Mathlib.Omega.{arith}
 use mathlib.Core.Path.{◌≡◌, refl, sym, ap, ◌∙◌}
 use mathlib.Core.Bool.{Bool, true, false, cond, ◌||◌, false≢true, or_assoc, or-false}
-use mathlib.Core.List.{List, [], ◌∷◌}
-use lib.ListN.{length, take, drop, get_or, drop_of_length-le, length-drop, length-take}
+use mathlib.Core.List.{List, [], ◌∷◌, ◌++◌}
+use lib.ListN.{length, take, drop, get_or, drop_of_length-le, length-drop, length-take, take-append-drop}
 use lib.Seq.{drop-cons, drop-drop, take_all, take-nil, length-slice}
 use Rattle.text.specs.Bytes.{part, any, first, count, after_last}
 
@@ -32,6 +32,20 @@ onward s i e h =
     let k : i + (e - i) ≡ e = omega arith in
     drop-drop (e - i) i s ∙ ap (λ (n : ℕ). drop n s) k
 
+-- what stands from place a on in what stands up to place e
+pub drop_take : (s : List ℕ) (a e : ℕ) → drop a (take e s) ≡ part a e s
+drop_take s zero e = rw sub-zero
+drop_take s (suc a) zero = rw zero-sub
+drop_take [] (suc a) (suc e) = sym (take-nil (suc e - suc a))
+drop_take (x ∷ s) (suc a) (suc e) = rw suc-sub-suc (drop_take s a e)
+
+-- a part is no longer than its places say, and just as long where they lie within
+pub part_length : (s : List ℕ) (a e : ℕ) → length (part a e s) ≤ e - a
+part_length s a e = omega (arith, length-take (e - a) (drop a s))
+
+pub part_full : (s : List ℕ) (a e : ℕ) → e ≤ length s → length (part a e s) ≡ e - a
+part_full s a e h = ap length (sym (drop_take s a e)) ∙ length-slice a e s h
+
 -- walks by the byte at place i
 module _ (f : ℕ → Bool) (s : List ℕ) (i : ℕ) where
   pub any_more : (h : Bool) → i < length s → ((h || f (get_or s i 0)) || any f (drop (i + 1) s)) ≡ (h || any f (drop i s))
@@ -54,18 +68,6 @@ module _ (f : ℕ → Bool) (s : List ℕ) (i : ℕ) where
   unfolding first
   first-end h = rw (drop_of_length-le s h) (omega arith)
 
-  pub count_hit : (n : ℕ) → i < length s → f (get_or s i 0) ≡ true → (n + 1) + count f (drop (i + 1) s) ≡ n + count f (drop i s)
-  unfolding count
-  count_hit n h e = rw (add-one i, drop-cons s i 0, e) (omega arith)
-
-  pub count_miss : (n : ℕ) → i < length s → f (get_or s i 0) ≡ false → n + count f (drop (i + 1) s) ≡ n + count f (drop i s)
-  unfolding count
-  count_miss n h e = rw (add-one i, drop-cons s i 0, e)
-
-  pub count-end : (n : ℕ) → length s ≤ i → n + count f (drop i s) ≡ n
-  unfolding count
-  count-end n h = rw (drop_of_length-le s h) (omega arith)
-
 pub count_le : (f : ℕ → Bool) (s : List ℕ) → count f s ≤ length s
 unfolding count
 count_le f [] = zero-le
@@ -75,33 +77,40 @@ count_le f (x ∷ s) = go (f x) (count_le f s)
     go true h = omega arith
     go false h = omega arith
 
--- a block: for the first that passes, one in which none passes, or one in which it stands
-first_skip : (f : ℕ → Bool) (n : ℕ) (l : List ℕ) → n ≤ length l → any f (take n l) ≡ false → n + first f (drop n l) ≡ first f l
+-- in two parts: for the first that passes, one in which none passes, or one in which it stands
+pub first_past : (f : ℕ → Bool) (a b : List ℕ) → any f a ≡ false → first f (a ++ b) ≡ length a + first f b
 unfolding any first
-first_skip f zero l h e = zero-add (first f l)
-first_skip f (suc n) [] h e = absurd (not-suc-le-zero h)
-first_skip f (suc n) (x ∷ l) h e =
-    let ih : n + first f (drop n l) ≡ first f l = first_skip f n l (le_of_suc-le-suc h) (or_right (f x) (any f (take n l)) e) in
-    rw (or_left (f x) (any f (take n l)) e) (omega arith)
+first_past f [] b e = sym (zero-add (first f b))
+first_past f (x ∷ a) b e =
+    let ih : first f (a ++ b) ≡ length a + first f b = first_past f a b (or_right (f x) (any f a) e) in
+    rw (or_left (f x) (any f a) e) (omega arith)
 
-first_in : (f : ℕ → Bool) (n : ℕ) (l : List ℕ) → any f (take n l) ≡ true → first f l < n
+pub first_inside : (f : ℕ → Bool) (a b : List ℕ) → any f a ≡ true → first f (a ++ b) ≡ first f a
 unfolding any first
-first_in f zero l e = absurd (false≢true e)
-first_in f (suc n) [] e = absurd (false≢true e)
-first_in f (suc n) (x ∷ l) e = go (f x) (first_in f n l) e
+first_inside f [] b e = absurd (false≢true e)
+first_inside f (x ∷ a) b e = go (f x) (first_inside f a b) e
   where
-    go : (b : Bool) → (any f (take n l) ≡ true → first f l < n) → (b || any f (take n l)) ≡ true → cond b 0 (suc (first f l)) < suc n
+    go : (d : Bool) → (any f a ≡ true → first f (a ++ b) ≡ first f a) → (d || any f a) ≡ true
+        → cond d 0 (suc (first f (a ++ b))) ≡ cond d 0 (suc (first f a))
+    go true h q = refl
+    go false h q = ap suc (h q)
+
+first_lt : (f : ℕ → Bool) (s : List ℕ) → any f s ≡ true → first f s < length s
+unfolding any first
+first_lt f [] e = absurd (false≢true e)
+first_lt f (x ∷ s) e = go (f x) (first_lt f s) e
+  where
+    go : (b : Bool) → (any f s ≡ true → first f s < length s) → (b || any f s) ≡ true → cond b 0 (suc (first f s)) < suc (length s)
     go true h q = omega arith
     go false h q = omega (arith, h q)
 
-count-split : (f : ℕ → Bool) (n : ℕ) (l : List ℕ) → count f (take n l) + count f (drop n l) ≡ count f l
+pub count-append : (f : ℕ → Bool) (a b : List ℕ) → count f (a ++ b) ≡ count f a + count f b
 unfolding count
-count-split f zero l = zero-add (count f l)
-count-split f (suc n) [] = refl
-count-split f (suc n) (x ∷ l) = go (f x) (count-split f n l)
+count-append f [] b = sym (zero-add (count f b))
+count-append f (x ∷ a) b = go (f x) (count-append f a b)
   where
-    go : (b : Bool) → count f (take n l) + count f (drop n l) ≡ count f l
-        → cond b (suc (count f (take n l))) (count f (take n l)) + count f (drop n l) ≡ cond b (suc (count f l)) (count f l)
+    go : (d : Bool) → count f (a ++ b) ≡ count f a + count f b
+        → cond d (suc (count f (a ++ b))) (count f (a ++ b)) ≡ cond d (suc (count f a)) (count f a) + count f b
     go true h = omega arith
     go false h = h
 
@@ -119,14 +128,18 @@ after_skip f (x ∷ s) (suc i) n e =
     rw (k, after_skip f s i n e)
 
 module _ (f : ℕ → Bool) (s : List ℕ) (i e : ℕ) (h : i ≤ e) where
+  onward_parts : part i e s ++ drop e s ≡ drop i s
+  onward_parts = ap (λ (l : List ℕ). part i e s ++ l) (sym (onward s i e h)) ∙ take-append-drop (e - i) (drop i s)
+
   pub first_block : e ≤ length s → any f (part i e s) ≡ false → e + first f (drop e s) ≡ i + first f (drop i s)
-  first_block k q = omega (arith, first_skip f (e - i) (drop i s) (omega (arith, length-drop i s)) q, ap (first f) (onward s i e h))
+  first_block k q = omega (arith, first_past f (part i e s) (drop e s) q, ap (first f) onward_parts, part_full s i e k)
 
   pub first-within : any f (part i e s) ≡ true → i + first f (drop i s) < e
-  first-within q = omega (arith, first_in f (e - i) (drop i s) q)
+  first-within q =
+      omega (arith, first_inside f (part i e s) (drop e s) q, ap (first f) onward_parts, first_lt f (part i e s) q, part_length s i e)
 
   pub count_block : count f (part i e s) + count f (drop e s) ≡ count f (drop i s)
-  count_block = omega (arith, count-split f (e - i) (drop i s), ap (count f) (onward s i e h))
+  count_block = sym (count-append f (part i e s) (drop e s)) ∙ ap (count f) onward_parts
 
   pub after_block : any f (part i e s) ≡ false → after_last f (take i s) ≡ after_last f (take e s)
   after_block q =
@@ -179,20 +192,6 @@ after_le f (x ∷ s) = go (f x) (after_last f s) (after_le f s)
     go true zero h = omega arith
     go false zero h = omega arith
     go b (suc k) h = omega arith
-
--- what stands from place a on in what stands up to place e
-pub drop_take : (s : List ℕ) (a e : ℕ) → drop a (take e s) ≡ part a e s
-drop_take s zero e = rw sub-zero
-drop_take s (suc a) zero = rw zero-sub
-drop_take [] (suc a) (suc e) = sym (take-nil (suc e - suc a))
-drop_take (x ∷ s) (suc a) (suc e) = rw suc-sub-suc (drop_take s a e)
-
--- a part is no longer than its places say, and just as long where they lie within
-pub part_length : (s : List ℕ) (a e : ℕ) → length (part a e s) ≤ e - a
-part_length s a e = omega (arith, length-take (e - a) (drop a s))
-
-pub part_full : (s : List ℕ) (a e : ℕ) → e ≤ length s → length (part a e s) ≡ e - a
-part_full s a e h = ap length (sym (drop_take s a e)) ∙ length-slice a e s h
 
 -- behind the last byte that passes none does, so a search from there on and one from a later place of that part agree
 after-rest : (f : ℕ → Bool) (s : List ℕ) → any f (drop (after_last f s) s) ≡ false

@@ -1,8 +1,10 @@
 pub mod BytesLaws
+pub mod WordLaws
 pub mod PartLaws
 pub mod FirstLaws
 pub mod AsciiLaws
 pub mod PatternLaws
 pub mod SplitLaws
 pub mod LineLaws
+pub mod PieceLaws
 pub mod LedLaws

@@ -1,17 +1,19 @@
 -- Laws of `specs/Pattern.antt`: patterns at the start of a text by its bytes, texts that are a pattern or end with it, searches by their places, and
 -- what is found lies within.
 -- Assumes nothing.
-use Rattle.std.specs.Prelude.{Option, Some, None}
 use Prim.Native.Nat.{ℕ, zero, suc, ◌+◌, ◌-◌, ◌≤◌, ◌<◌, zero-le}
 use native.Mathlib.Nat.{add-zero, add_assoc, zero-add, not-suc-le-zero}
 use native.Mathlib.Numerals.{add-one, one-add}
 use native.Mathlib.Omega.{arith}
 use mathlib.Core.Path.{◌≡◌, refl, sym, ap, ◌∙◌, subst}
-use mathlib.Core.Bool.{Bool, true, false, cond, ◌&&◌, false≢true}
+use Rattle.std.specs.Prelude.{Option, Some, None}
+use Rattle.std.specs.List.{list_all, zip}
+use lib.Pointwise.{pointwise}
+use mathlib.Core.Bool.{Bool, true, false, cond, ◌&&◌, false≢true, and-false}
 use mathlib.Core.List.{List, [], ◌∷◌, ◌++◌}
 use lib.ListN.{length, take, drop, get_or, drop_of_length-le, take-append-drop, length-append, length-drop}
 use lib.Seq.{drop-cons, drop-drop, take_all, drop-append_seam}
-use lib.Dec.{eqb, leb, eqb-suc-zero}
+use lib.Dec.{eqb, leb, eqb-suc-zero, eqb-suc-suc}
 use borrow.Author.Tests.{eq-eqb, ne_eqb, eqb-true, leb-true, le-leb}
 use Rattle.text.specs.Bytes.{is, first, part}
 use Rattle.text.specs.Pattern.{starts_with, ends_with, equals, find, later, is_at, contains}
@@ -39,6 +41,25 @@ module _ (p s : List ℕ) (j : ℕ) where
   pub starts-end : length p ≤ j → starts_with (drop j p) (drop j s) ≡ true
   unfolding starts_with
   starts-end h = rw (drop_of_length-le p h)
+
+-- byte against byte, where s has room for the pattern
+pub starts-zip : (p s : List ℕ) → length p ≤ length s → list_all (λ (x : ℕ × ℕ). eqb x.0 x.1) (zip s p) ≡ starts_with p s
+unfolding starts_with
+starts-zip [] [] h = refl
+starts-zip [] (x ∷ s) h = refl
+starts-zip (b ∷ p) [] h = absurd (not-suc-le-zero h)
+starts-zip (b ∷ p) (x ∷ s) h = ap (λ r. eqb x b && r) (starts-zip p s (omega arith))
+
+pub equals-pointwise : (s p : List ℕ) → pointwise eqb s p ≡ equals p s
+unfolding equals starts_with
+equals-pointwise [] [] = refl
+equals-pointwise [] (b ∷ p) = sym (and-false (eqb 0 (suc (length p))))
+equals-pointwise (x ∷ s) [] = rw eqb-suc-zero
+equals-pointwise (x ∷ s) (b ∷ p) = rw (equals-pointwise s p, eqb-suc-suc) (go (eqb x b))
+  where
+    go : (t : Bool) → (t && (eqb (length s) (length p) && starts_with p s)) ≡ (eqb (length s) (length p) && (t && starts_with p s))
+    go true = refl
+    go false = sym (and-false (eqb (length s) (length p)))
 
 -- a text that has the pattern has room for it
 pub starts-long : (p s : List ℕ) → starts_with p s ≡ true → length p ≤ length s

@@ -1,5 +1,5 @@
 -- Lines of a text, as `lines()` and as `split('\n')` give them.
-use Rattle.std.specs.Prelude.{ℕ, suc, ◌+◌, Bool, true, false, cond, List, [], ◌∷◌, ◌++◌, drop, eqb}
+use Rattle.std.specs.Prelude.{ℕ, suc, ◌+◌, ◌-◌, Bool, true, false, cond, List, [], ◌∷◌, ◌++◌, length, take, drop, eqb, leb}
 use Rattle.text.specs.Pattern.{starts_with}
 use Rattle.text.specs.Split.{split}
 
@@ -51,6 +51,14 @@ pieces s = split LF s
 abbrev pub pieces_after : Bool → ℕ → List ℕ → List (List ℕ)
 pieces_after true e s = []
 pieces_after false e s = pieces (drop (e + 1) s)
+
+-- the pieces from a place on, and none behind the last
+unfoldable pub pieces_from : List ℕ → ℕ → List (List ℕ)
+pieces_from s a = cond (leb a (length s)) (pieces (drop a s)) []
+
+-- the pieces that an LF ends: all but the last
+abbrev pub ended : List ℕ → List (List ℕ)
+ended s = take (length (pieces s) - 1) (pieces s)
 
 -- lines behind a text of lines: an LF before each
 unfoldable pub led : List (List ℕ) → List ℕ

@@ -1,5 +1,5 @@
 // Bytes 80 hex and above, and letters in lower case.
-ghost use Rattle.std.specs.Prelude.{◌≡◌, ◌+◌, ◌≤◌, length, drop};
+ghost use Rattle.std.specs.Prelude.{◌≡◌, ◌≤◌, length};
 ghost use Rattle.text.specs.Bytes.{any, first};
 ghost use Rattle.text.specs.Ascii.{is_wide, wide_line, lower as lower_of};
 
@@ -9,43 +9,28 @@ use crate::bytes;
 fn has_wide(s: &[u8]) -> bool
     ensures { result ≡ any is_wide s.now }
 {
-    let mut hit = false;
-    let mut j = 0;
-    while j < s.len() {
-        hit = hit | (0x80 <= s[j]);
-        j += 1;
-    }
-    hit
+    s.iter().fold(false, |hit, b| hit | (0x80 <= *b))
 }
 
-// The first place of such a byte from a place on, or the length, byte by byte.
-fn find_wide_near(s: &[u8], from: usize) -> usize
-    requires { from ≤ length s.now }
-    ensures { (result ≡ from + first is_wide (drop from s.now)) × (result ≤ length s.now) }
+// The first place of such a byte, or the length, byte by byte.
+fn find_wide_near(s: &[u8]) -> usize
+    ensures { (result ≡ first is_wide s.now) × (result ≤ length s.now) }
 {
-    let mut i = from;
-    while i < s.len() {
-        if 0x80 <= s[i] {
-            return i;
-        }
-        i += 1;
-    }
-    i
+    s.iter().position(|b| 0x80 <= *b).unwrap_or(s.len())
 }
 
 // The first place of such a byte, or the length.
 pub fn find_wide(s: &[u8]) -> usize
     ensures { (result ≡ first is_wide s.now) × (result ≤ length s.now) }
 {
-    let mut i = 0;
-    while 256 <= s.len() - i {
-        let e = i + 256;
-        if has_wide(&s[i..e]) {
-            return find_wide_near(s, i);
+    let mut seen = 0;
+    for block in s.chunks(256) {
+        if has_wide(block) {
+            return seen + find_wide_near(block);
         }
-        i = e;
+        seen += block.len();
     }
-    find_wide_near(s, i)
+    seen
 }
 
 // The line of the first such byte, or 0.
@@ -60,13 +45,9 @@ pub fn wide_line(s: &[u8]) -> usize
 }
 
 // A byte in lower case.
+#[tactic(auto, using(std::proofs::lemmas::Bool::Decides::nat_tests), unfolding(crate::specs::Ascii::lower))]
 pub fn lower(b: u8) -> u8
     ensures { result ≡ lower_of b }
 {
-    if 0x41 <= b {
-        if b <= 0x5A {
-            return b + 32;
-        }
-    }
-    b
+    b.to_ascii_lowercase()
 }

@@ -3,43 +3,25 @@ ghost use Rattle.std.specs.Prelude.{◌≡◌, ◌≤◌, length};
 ghost use Rattle.text.specs.Space.{is_space, lead as lead_of, kept as kept_of, is_blank};
 
 // Whether b is a space byte.
+#[tactic(auto, using(std::proofs::lemmas::Bool::Decides::nat_tests), unfolding(crate::specs::Space::is_space))]
 pub fn is_space(b: u8) -> bool
     ensures { result ≡ is_space b }
 {
-    if 0x09 <= b {
-        if b <= 0x0D {
-            return true;
-        }
-    }
-    b == 0x20
+    matches!(b, 0x09..=0x0D | b' ')
 }
 
 // How many space bytes s begins with.
 pub fn lead(s: &[u8]) -> usize
     ensures { (result ≡ lead_of s.now) × (result ≤ length s.now) }
 {
-    let mut i = 0;
-    while i < s.len() {
-        if !is_space(s[i]) {
-            return i;
-        }
-        i += 1;
-    }
-    i
+    s.iter().take_while(|b| is_space(**b)).count()
 }
 
 // How many bytes s has up to its last byte that is no space byte.
 pub fn kept(s: &[u8]) -> usize
     ensures { (result ≡ kept_of s.now) × (result ≤ length s.now) }
 {
-    let mut e = s.len();
-    while 0 < e {
-        if !is_space(s[e - 1]) {
-            return e;
-        }
-        e -= 1;
-    }
-    e
+    s.len() - s.iter().rev().take_while(|b| is_space(**b)).count()
 }
 
 // Whether s has only space bytes.

@@ -1,12 +1,7 @@
--- `anchor::text_end` meets its contract. The invariant: the end found so far, and what is left of the text, give the end of the whole. Assumes nothing.
-use Prim.Native.Nat.{◌-◌, ◌≤◌}
-use mathlib.Core.Path.{◌≡◌}
-use lib.ListN.{length, drop}
+-- `text_end` meets its contract. The invariant: the end found so far, and what is left of the text, give the end of the whole. Assumes nothing.
+use Rattle.std.proofs.Common.{◌≡◌, ◌≤◌, drop}
 use Rattle.anchor.specs.Anchor.{plain_end_from, plain_end}
 use Rattle.anchor.proofs.text_end.Given as goal
 
 abbrev pub invariant-loop-i : goal.invariant-loop-i
-invariant-loop-i l = (l.i ≤ length l.text) × ((l.end ≤ l.i) × (plain_end_from l.markup l.end l.i (drop l.i l.text) ≡ plain_end l.text))
-
-abbrev pub decreases-loop-i : goal.decreases-loop-i
-decreases-loop-i l = length l.text - l.i
+invariant-loop-i l = (l.end ≤ l.i) × (plain_end_from l.markup l.end l.i (drop l.i l.text) ≡ plain_end l.text)

@@ -2,8 +2,8 @@
 use Rattle.std.proofs.Common.{◌-◌, ◌≤◌, length}
 use Rattle.notes.proofs.read_all.Given as goal
 
-abbrev pub invariant-loop-n : goal.invariant-loop-n
-invariant-loop-n g l = (l.at ≤ l.end) × (l.end ≤ length l.buf)
+abbrev pub invariant-loop-end : goal.invariant-loop-end
+invariant-loop-end g l = (l.at ≤ l.end) × (l.end ≤ length l.buf)
 
-abbrev pub decreases-loop-n : goal.decreases-loop-n
-decreases-loop-n g l = length l.buf - l.end
+abbrev pub decreases-loop-end : goal.decreases-loop-end
+decreases-loop-end g l = length l.buf - l.end

@@ -1,9 +1,6 @@
 -- Each record takes at most its room.
-use Rattle.std.proofs.Common.{◌*◌, ◌-◌, ◌≤◌, length}
+use Rattle.std.proofs.Common.{◌*◌, ◌≤◌, length}
 use Rattle.notes.proofs.read_notes.Given as goal
 
 abbrev pub invariant-loop-k : goal.invariant-loop-k
-invariant-loop-k g l = (l.k ≤ l.count) × ((l.indexed ≤ l.k * 298) × (l.end ≤ length l.contents))
-
-abbrev pub decreases-loop-k : goal.decreases-loop-k
-decreases-loop-k g l = l.count - l.k
+invariant-loop-k g l = (l.indexed ≤ l.k * 298) × (l.end ≤ length l.contents)

@@ -7,9 +7,11 @@ use Rattle.buffer.specs.Decimal.{decimal}
 use Rattle.buffer.proofs.decimal.put_before.Given as goal
 
 abbrev pub invariant-loop-m : goal.invariant-loop-m
-invariant-loop-m l =
-    (l.m ≤ l.n) × ((l.i ≤ l.e) × ((l.i + length (decimal l.n) ≡ l.e + length (decimal l.m)) × ((length l.out ≡ length l.initial.out)
-    × (decimal l.m ++ drop l.i l.out ≡ decimal l.n ++ drop l.e l.initial.out))))
+invariant-loop-m l = record {
+  place : l.i ≤ l.e;
+  digits : l.i + length (decimal l.n) ≡ l.e + length (decimal l.m);
+  bytes : decimal l.m ++ drop l.i l.out ≡ decimal l.n ++ drop l.e l.initial.out;
+}
 
 abbrev pub decreases-loop-m : goal.decreases-loop-m
 decreases-loop-m l = l.m

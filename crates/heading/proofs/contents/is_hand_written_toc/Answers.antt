@@ -1,40 +1,36 @@
--- `contents::is_hand_written_toc` meets its contract: each arm by what the line is; a heading's text lies within the line. Assumes nothing.
-use mathlib.Core.Path.{sym, ◌∙◌}
+-- `contents::is_hand_written_toc` meets its contract: a heading's text lies within the line. Assumes nothing.
+use Prim.Native.Nat.{◌≤◌}
+use mathlib.Core.Path.{refl, sym, ◌∙◌}
 use native.Mathlib.Omega.{arith}
+use lib.ListN.{length}
+use Rattle.text.specs.Pattern.{bytes}
 use Rattle.heading.specs.Contents.{is_contents}
+use Rattle.heading.proofs.ContentsLaws.{lowered_same}
 use Rattle.heading.proofs.WalkLaws.{heading-within}
+use Rattle.heading.proofs.contents.is_hand_written_toc.Goals.{In-Heading}
 use Rattle.heading.proofs.contents.is_hand_written_toc.Goals as goal
 
-pub slice_bounds-is_lowered-count : goal.slice_bounds-is_lowered-count
-slice_bounds-is_lowered-count c = omega (arith, heading-within _ _ _ _ (sym c.split_heading-kind.ensures ∙ c.in-Heading.is))
+within : (c : In-Heading) → (c.in-Heading.start ≤ c.in-Heading.end) × (c.in-Heading.end ≤ length c.args.line.now)
+within c = (heading-within _ _ _ _ (sym c.in-Heading.ensures)).1
 
-pub slice_bounds-is_lowered-start : goal.slice_bounds-is_lowered-start
-slice_bounds-is_lowered-start c = omega (arith, heading-within _ _ _ _ (sym c.split_heading-kind.ensures ∙ c.in-Heading.is))
+pub slice_bounds-title-count : goal.slice_bounds-title-count
+slice_bounds-title-count c = (within (goal.at.slice_bounds-title-count c).In-Heading).0
 
-pub slice_bounds-is_lowered-end : goal.slice_bounds-is_lowered-end
-slice_bounds-is_lowered-end c = omega (arith, heading-within _ _ _ _ (sym c.split_heading-kind.ensures ∙ c.in-Heading.is))
+pub slice_bounds-title-start : goal.slice_bounds-title-start
+slice_bounds-title-start c = omega (arith, within (goal.at.slice_bounds-title-start c).In-Heading)
 
-pub returns-then-is_lowered : goal.returns-then-is_lowered
+pub slice_bounds-title-end : goal.slice_bounds-title-end
+slice_bounds-title-end c = (within (goal.at.slice_bounds-title-end c).In-Heading).1
+
+pub returns-then-eq_ignore_ascii_case : goal.returns-then-eq_ignore_ascii_case
 unfolding is_contents
-returns-then-is_lowered c = rw (sym c.split_heading-kind.ensures ∙ c.in-Heading.is, sym c.is_lowered.ensures ∙ c.if-is_lowered.true)
+returns-then-eq_ignore_ascii_case c =
+    let e = lowered_same (bytes "contents") _ refl c.eq_ignore_ascii_case.ensures.test in
+    rw (sym c.in-Heading.ensures, c.if-eq_ignore_ascii_case.true, sym e ∙ c.if-eq_ignore_ascii_case.true)
 
-pub slice_bounds-is_lowered-count-in-Heading : goal.slice_bounds-is_lowered-count-in-Heading
-slice_bounds-is_lowered-count-in-Heading c = omega (arith, heading-within _ _ _ _ (sym c.split_heading-kind.ensures ∙ c.in-Heading.is))
-
-pub slice_bounds-is_lowered-start-in-Heading : goal.slice_bounds-is_lowered-start-in-Heading
-slice_bounds-is_lowered-start-in-Heading c = omega (arith, heading-within _ _ _ _ (sym c.split_heading-kind.ensures ∙ c.in-Heading.is))
-
-pub slice_bounds-is_lowered-end-in-Heading-2 : goal.slice_bounds-is_lowered-end-in-Heading-2
-slice_bounds-is_lowered-end-in-Heading-2 c = omega (arith, heading-within _ _ _ _ (sym c.split_heading-kind.ensures ∙ c.in-Heading.is))
-
-pub returns-in-Quoted : goal.returns-in-Quoted
+pub returns-else-eq_ignore_ascii_case : goal.returns-else-eq_ignore_ascii_case
 unfolding is_contents
-returns-in-Quoted c = rw (sym c.split_heading-kind.ensures ∙ c.in-Quoted.is)
-
-pub returns-else-is_lowered : goal.returns-else-is_lowered
-unfolding is_contents
-returns-else-is_lowered c = rw (sym c.split_heading-kind.ensures ∙ c.in-Heading.is, sym c.is_lowered.ensures ∙ c.if-is_lowered.false) c.is_lowered-in-Heading.ensures
-
-pub returns-in-Other : goal.returns-in-Other
-unfolding is_contents
-returns-in-Other c = rw (sym c.split_heading-kind.ensures ∙ c.in-Other.is)
+returns-else-eq_ignore_ascii_case c =
+    let e = lowered_same (bytes "contents") _ refl c.eq_ignore_ascii_case.ensures.test in
+    let f = lowered_same (bytes "table of contents") _ refl c.eq_ignore_ascii_case-else-eq_ignore_ascii_case.ensures.test in
+    rw (sym c.in-Heading.ensures, sym e ∙ c.if-eq_ignore_ascii_case.false) f

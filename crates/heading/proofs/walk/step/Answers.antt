@@ -1,23 +1,11 @@
--- `walk::step` meets its contract: a line that leaves the state, or one that is read. Assumes nothing.
-use mathlib.Core.Path.{sym, ap, ◌∙◌}
-use Rattle.text.proofs.BytesLaws.{or_left, or_right}
-use Rattle.heading.specs.declared.walk.WalkStep.{WalkStep}
-use Rattle.heading.proofs.StillLaws.{begins-none, none_blank, blank_kind, blank_after, other_kind, other_after}
+-- `walk::step` meets its contract: an empty line leaves the state. Assumes nothing.
+use mathlib.Core.Path.{sym, ◌∙◌}
+use borrow.Author.Tests.{eqb-true}
+use Rattle.heading.proofs.StillLaws.{empty_kind, empty_after}
 use Rattle.heading.proofs.walk.step.Goals as goal
 
-pub returns-then-line-eq0 : goal.returns-then-line-eq0
-returns-then-line-eq0 c =
-    let s = c.args in
-    let b = none_blank s.line.now c.if-line-eq0.true in (
-      ap (λ (w : WalkStep). w.kind) c.still.ensures ∙ sym (blank_kind s.state.fence s.state.comment s.line.now b),
-      ap (λ (w : WalkStep). w.state) c.still.ensures ∙ sym (blank_after s.state.fence s.state.comment s.line.now b),
-    )
-
-pub returns : goal.returns
-returns c =
-    let s = c.args in
-    let m = c.may_begin in
-    let b = begins-none s.line.now (m.ensures (or_left m.result s.state.comment c.if-may_begin-state.false)) in (
-      ap (λ (w : WalkStep). w.kind) c.still-2.ensures ∙ sym (other_kind s.state.fence s.state.comment s.line.now b),
-      ap (λ (w : WalkStep). w.state) c.still-2.ensures ∙ sym (other_after s.state.fence s.state.comment s.line.now b (λ q. or_right m.result s.state.comment c.if-may_begin-state.false)),
-    )
+pub returns-then-is_empty : goal.returns-then-is_empty
+returns-then-is_empty c =
+    let l = c.args.line.now in
+    let e = eqb-true _ 0 (sym c.is_empty.ensures ∙ c.if-is_empty.true) in
+    rw c.still.ensures (sym (empty_kind c.args.state.fence c.args.state.comment l e), sym (empty_after c.args.state.fence c.args.state.comment l e))

@@ -1,15 +1,14 @@
 -- `rows::read` meets its contract. Assumes nothing.
-use Rattle.std.proofs.Common.{◌≡◌, length, Some, sym, ◌∙◌, arith}
-use borrow.Author.Tests.{eqb-false}
-use Rattle.index.proofs.ReadLaws.{told_all, read_turn}
+use Rattle.std.proofs.Common.{◌≡◌, Some, sym, ◌∙◌, arith}
+use Rattle.index.proofs.ReadLaws.{read_turn, lines_more, told_all}
 use Rattle.index.proofs.rows.read.Goals as goal
 
-pub returns-then-a-e-clause-told : goal.returns-then-a-e-clause-told
-returns-then-a-e-clause-told c = told_all c.loop-n.invariant c.piece-p.result.end (rw c.if-p.true at c.piece-p.ensures.s_value) (omega arith)
-
-pub loop-n-preserved : goal.loop-n-preserved
-loop-n-preserved c =
-    let p = c.piece-p in
-    let inside = eqb-false p.result.end (length c.args.index.now) (sym p.ensures.from_le_end.1.1 ∙ c.if-p.false) in
+pub loop-line-preserved : goal.loop-line-preserved
+loop-line-preserved c =
+    let l = c.loop-line.invariant in
+    let line = c.in-Some.ensures.steps in
     let is-record : c.read_line.result ≡ Some c.in_ok-fields.fields = grind arith in
-    read_turn c.loop-n.invariant p.result.end (rw c.if-p.false at p.ensures.s_value) (sym c.read_line.ensures ∙ is-record) (omega arith) (omega arith) c.put_row.ensures
+    record { read = read_turn l.read l.left line (sym c.read_line.ensures ∙ is-record) c.put_row.ensures; left = lines_more l.read l.left line }
+
+pub returns-clause-told : goal.returns-clause-told
+returns-clause-told c = let l = c.loop-line.invariant in told_all l.read l.left c.in-None.ensures.steps.0 c.if-at-index.false

@@ -1,11 +1,9 @@
--- `rows::read` meets its contract. The invariant: how far the index is read, and what the rows keep of it. Assumes nothing.
-use lib.ListN.{length}
-use Prim.Native.Nat.{◌+◌, ◌-◌}
+-- `rows::read` meets its contract. The invariant: how far the index is read, what the rows keep of it, and the lines that are left. Assumes nothing.
+use mathlib.Core.Path.{◌≡◌}
+use lib.ListN.{drop}
+use Rattle.text.specs.Lines.{ended}
 use Rattle.index.proofs.ReadLaws.{Upto}
 use Rattle.index.proofs.rows.read.Given as goal
 
-abbrev pub invariant-loop-n : goal.invariant-loop-n
-invariant-loop-n l = Upto l.index l.rows l.n l.a
-
-abbrev pub decreases-loop-n : goal.decreases-loop-n
-decreases-loop-n l = (length l.index + 1) - l.a
+abbrev pub invariant-loop-line : goal.invariant-loop-line
+invariant-loop-line l = record { read : Upto l.index l.rows l.n l.at; left : l.line-iterator ≡ ended (drop l.at l.index) }

@@ -1,15 +1,15 @@
--- `shift::level::past_line` meets its contract. The invariant: a heading of the pieces from start on goes past, and the piece at start has the number.
+-- `shift::level::past_line` meets its contract. The invariant: a heading of the lines that are left goes past, and the first of these has the number.
 -- Assumes nothing.
-use Prim.Native.Nat.{◌+◌, ◌-◌, ◌≤◌}
-use lib.ListN.{length, drop}
-use Rattle.text.specs.Lines.{pieces}
-use Rattle.heading.specs.Walk.{kinds_from}
-use Rattle.shift.specs.Levels.{kinds_in}
+use Prim.Native.Nat.{◌+◌, ◌≤◌}
+use lib.ListN.{length}
+use Rattle.std.specs.List.{All}
+use Rattle.shift.specs.Levels.{HasLevel, kinds_in}
 use Rattle.shift.proofs.LevelsLaws.{Ahead}
 use Rattle.shift.proofs.level.past_line.Given as goal
 
-abbrev pub invariant-loop-line : goal.invariant-loop-line
-invariant-loop-line l = (l.start ≤ length l.s) × ((l.number ≤ l.start + 1) × Ahead l.shift (kinds_in l.s) (kinds_from l.state (pieces (drop l.start l.s))) l.number)
-
-abbrev pub decreases-loop-line : goal.decreases-loop-line
-decreases-loop-line l = length l.s - l.start
+abbrev pub invariant-loop-kind : goal.invariant-loop-kind
+invariant-loop-kind l = record {
+  ahead : Ahead l.shift (kinds_in l.s) l.kind-iterator l.number;
+  levels : All HasLevel l.kind-iterator;
+  few : l.number + length l.kind-iterator ≤ length l.s + 2;
+}

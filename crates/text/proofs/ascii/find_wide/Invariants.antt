@@ -1,14 +1,14 @@
--- `ascii::find_wide` meets its contract. The invariant: every byte passed is below 80 hex. Where a block has a higher one, nothing is
--- to be shown. Assumes nothing.
-use Prim.Native.Nat.{◌+◌, ◌-◌, ◌≤◌}
+-- `ascii::find_wide` meets its contract. The invariant: no such byte stands in the blocks passed. Assumes nothing.
+use Prim.Native.Nat.{◌+◌}
 use mathlib.Core.Path.{◌≡◌}
-use lib.ListN.{length, drop}
+use lib.ListN.{length}
+use Rattle.std.specs.Slice.Iter.{chunks_rest}
 use Rattle.text.specs.Bytes.{first}
 use Rattle.text.specs.Ascii.{is_wide}
 use Rattle.text.proofs.ascii.find_wide.Given as goal
 
-abbrev pub invariant-loop-i : goal.invariant-loop-i
-invariant-loop-i l = (l.i ≤ length l.s) × (l.i + first is_wide (drop l.i l.s) ≡ first is_wide l.s)
-
-abbrev pub decreases-loop-i : goal.decreases-loop-i
-decreases-loop-i l = length l.s - l.i
+abbrev pub invariant-loop-block : goal.invariant-loop-block
+invariant-loop-block l = record {
+  length : l.seen + length (chunks_rest l.block-iterator) ≡ length l.s;
+  first : l.seen + first is_wide (chunks_rest l.block-iterator) ≡ first is_wide l.s;
+}

@@ -1,28 +1,14 @@
--- `ascii::has_wide` meets its contract. The invariant: what was seen, or what is left. Assumes nothing.
-use mathlib.Core.Path.{refl, sym, ◌∙◌}
-use native.Mathlib.Omega.{arith}
+-- `ascii::has_wide` meets its contract: a fold of "or" is `any`. Assumes nothing.
+use mathlib.Core.Path.{◌∙◌}
+use mathlib.Core.Bool.{◌||◌}
+use Rattle.std.proofs.Common.{rules, tests}
+use Rattle.std.proofs.lemmas.Iterator.{YieldsList-from_slice}
+use Rattle.std.proofs.lemmas.Iterator.Consumers.{fold_from_yields_List}
 use Rattle.text.specs.Ascii.{is_wide}
-use Rattle.text.proofs.BytesLaws.{any_more, any-end}
+use Rattle.text.proofs.WordLaws.{fold_any}
 use Rattle.text.proofs.ascii.has_wide.Goals as goal
-
-pub loop-j-init : goal.loop-j-init
-loop-j-init c = (omega arith, refl)
-
-pub bounds-s-j : goal.bounds-s-j
-bounds-s-j c = omega arith
-
-pub overflow_add-j : goal.overflow_add-j
-overflow_add-j c = omega arith
-
-pub loop-j-smaller : goal.loop-j-smaller
-loop-j-smaller c = omega arith
-
-pub loop-j-preserved : goal.loop-j-preserved
-loop-j-preserved c =
-    let l = c.loop-j in
-    (omega arith, any_more is_wide c.args.s.now l.j l.hit (omega arith) ∙ l.invariant.1)
 
 pub returns : goal.returns
 returns c =
-    let l = c.loop-j in
-    sym (any-end is_wide c.args.s.now l.j l.hit (omega arith)) ∙ l.invariant.1
+    fold_from_yields_List _ (λ a x. a || is_wide x) _ _ c.fold.ensures.ran (YieldsList-from_slice c.args.s.now cc) (λ a x b q k. search (rules, tests))
+    ∙ fold_any is_wide c.args.s.now

@@ -8,6 +8,6 @@ pub returns-then-p-s : goal.returns-then-p-s
 unfolding ends_with
 returns-then-p-s c = rw (le-leb _ _ c.if-p-s.true) (rw rest at c.starts_with.ensures)
 
-pub returns : goal.returns
+pub returns-else-p-s : goal.returns-else-p-s
 unfolding ends_with
-returns c = rw (lt-leb _ _ c.if-p-s.false)
+returns-else-p-s c = rw (lt-leb _ _ c.if-p-s.false)

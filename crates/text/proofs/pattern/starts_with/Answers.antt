@@ -1,24 +1,19 @@
--- `pattern::starts_with` meets its contract. The invariant: s is long enough, and what is left of p has still to stand at j. Assumes nothing.
-use mathlib.Core.Path.{refl, sym, ◌∙◌}
-use borrow.Author.Rules.{rules}
-use Rattle.text.proofs.PatternLaws.{starts_more, starts_differs, starts-short, starts-end}
+-- `pattern::starts_with` meets its contract: all bytes of p are those of s, which is long enough. Assumes nothing.
+use mathlib.Core.Path.{◌∙◌, sym}
+use lib.Dec.{eqb}
+use borrow.Author.Tests.{lt-leb}
+use Rattle.std.proofs.Common.{rules, tests}
+use Rattle.std.proofs.lemmas.Iterator.{YieldsList-from_slice, YieldsList-from_zip}
+use Rattle.std.proofs.lemmas.Iterator.Search.{all_from_yields_List}
+use Rattle.text.proofs.PatternLaws.{starts-zip, starts-short}
 use Rattle.text.proofs.pattern.starts_with.Goals as goal
 
-pub returns-then-s-p : goal.returns-then-s-p
-returns-then-s-p c = sym (starts-short _ _ c.if-s-p.true)
+pub returns-then-p-s : goal.returns-then-p-s
+returns-then-p-s c =
+    let s = c.args.s.now in
+    let p = c.args.p.now in
+    all_from_yields_List (λ x. eqb x.0 x.1) c.all.new.self _ _ c.all.ensures.ran (YieldsList-from_zip {s = c.zip.result} (YieldsList-from_slice s cc) (YieldsList-from_slice p cc)) (λ x b q k. search (rules, tests))
+    ∙ starts-zip p s c.if-p-s.true
 
-pub loop-j-init : goal.loop-j-init
-loop-j-init c = (search rules, (search rules, refl))
-
-pub returns-then-s-j : goal.returns-then-s-j
-returns-then-s-j c =
-    let w = c in
-    sym (w.loop-j.invariant.1.1 ∙ starts_differs _ _ _ w.loop-j-test.true (search rules) c.if-s-j.true)
-
-pub loop-j-preserved : goal.loop-j-preserved
-loop-j-preserved c =
-    let w = c in
-    (search rules, (search rules, w.loop-j.invariant.1.1 ∙ starts_more _ _ _ w.loop-j-test.true (search rules) c.if-s-j.false))
-
-pub returns : goal.returns
-returns c = sym (c.loop-j.invariant.1.1 ∙ starts-end _ _ _ c.loop-j-test.false)
+pub returns-else-p-s : goal.returns-else-p-s
+returns-else-p-s c = lt-leb _ _ c.if-p-s.false ∙ sym (starts-short _ _ c.if-p-s.false)

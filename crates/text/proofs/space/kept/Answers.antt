@@ -1,39 +1,22 @@
--- `space::kept` meets its contract. The invariant: the bytes passed are space bytes. Assumes nothing.
-use mathlib.Core.Path.{sym, ap, ◌∙◌}
-use mathlib.Core.Bool.{not}
-use lib.Seq.{take-length}
+-- `space::kept` meets its contract: the space bytes at the end start behind the last other byte. Assumes nothing.
+use Prim.Native.Nat.{◌-◌}
+use mathlib.Core.Path.{◌∙◌, sym, ap, refl}
+use mathlib.Core.List.{reverse}
 use native.Mathlib.Omega.{arith}
-use Rattle.text.specs.Space.{is_other, kept}
-use Rattle.text.proofs.BytesLaws.{after_hit, after_miss, after-end}
+use lib.ListN.{length}
+use Rattle.std.proofs.Common.{rules, tests}
+use Rattle.std.proofs.lemmas.Iterator.Adapters.{YieldsList-from_rev_slice}
+use Rattle.std.proofs.lemmas.Iterator.Consumers.{count_from_yields_List}
+use Rattle.std.proofs.lemmas.Iterator.Search.{YieldsList-from_take_while}
+use Rattle.std.proofs.lemmas.List.Folds.{length-prefix_len}
+use Rattle.text.specs.Space.{is_space, is_other, kept}
+use Rattle.text.proofs.WordLaws.{after-suffix}
 use Rattle.text.proofs.space.kept.Goals as goal
 
-pub loop-e-init : goal.loop-e-init
-unfolding kept
-loop-e-init c = (omega arith, rw take-length)
-
-pub overflow_sub-e : goal.overflow_sub-e
-overflow_sub-e c = omega arith
-
-pub bounds-s-e : goal.bounds-s-e
-bounds-s-e c = omega arith
-
-pub returns-then-not-is_space : goal.returns-then-not-is_space
-returns-then-not-is_space c =
-    let l = c.loop-e in
-    let s = c.args.s.now in
-    omega (arith, after_hit is_other s l.e (omega arith) (omega arith) (ap not (sym c.is_space.ensures ∙ c.if-not-is_space.true)))
-
-pub overflow_sub-e-in-loop-e : goal.overflow_sub-e-in-loop-e
-overflow_sub-e-in-loop-e c = omega arith
-
-pub loop-e-smaller : goal.loop-e-smaller
-loop-e-smaller c = omega arith
-
-pub loop-e-preserved : goal.loop-e-preserved
-loop-e-preserved c =
-    let l = c.loop-e in
-    let s = c.args.s.now in
-    (omega arith, after_miss is_other s l.e (omega arith) (omega arith) (ap not (sym c.is_space.ensures ∙ c.if-not-is_space.false)) ∙ l.invariant.1)
-
 pub returns : goal.returns
-returns c = omega (arith, after-end is_other c.args.s.now c.loop-e.e (omega arith))
+unfolding kept
+returns c =
+    let s = c.args.s.now in
+    let t = c.take_while.ensures in
+    let e = count_from_yields_List c.take_while.result _ c.count.ensures.ran (YieldsList-from_take_while _ is_space (YieldsList-from_rev_slice s cc) t.closure t.done (λ x b q k. search (rules, tests))) ∙ length-prefix_len is_space (reverse s) in
+    (ap (λ n. length s - n) e ∙ sym (after-suffix is_other is_space (λ _. refl) s), omega arith)

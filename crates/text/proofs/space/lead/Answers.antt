@@ -1,36 +1,21 @@
--- `space::lead` meets its contract. The invariant: the bytes passed are space bytes. Assumes nothing.
-use mathlib.Core.Path.{sym, ap, ◌∙◌}
-use mathlib.Core.Bool.{not}
+-- `space::lead` meets its contract: the space bytes at the start end at the first other byte. Assumes nothing.
+use mathlib.Core.Path.{◌∙◌, sym, refl}
 use native.Mathlib.Omega.{arith}
-use native.Mathlib.Nat.{zero-add}
-use Rattle.text.specs.Space.{is_other, lead}
-use Rattle.text.proofs.BytesLaws.{first_hit, first_miss, first-end}
+use Rattle.std.proofs.Common.{rules, tests}
+use Rattle.std.proofs.lemmas.Iterator.{YieldsList-from_slice}
+use Rattle.std.proofs.lemmas.Iterator.Consumers.{count_from_yields_List}
+use Rattle.std.proofs.lemmas.Iterator.Search.{YieldsList-from_take_while}
+use Rattle.std.proofs.lemmas.List.Folds.{length-prefix_len}
+use Rattle.text.specs.Space.{is_space, is_other, lead}
+use Rattle.text.proofs.BytesLaws.{first_le}
+use Rattle.text.proofs.WordLaws.{first-prefix}
 use Rattle.text.proofs.space.lead.Goals as goal
 
-pub loop-i-init : goal.loop-i-init
-unfolding lead
-loop-i-init c = (omega arith, zero-add _)
-
-pub bounds-s-i : goal.bounds-s-i
-bounds-s-i c = omega arith
-
-pub returns-then-not-is_space : goal.returns-then-not-is_space
-returns-then-not-is_space c =
-    let l = c.loop-i in
-    let s = c.args.s.now in
-    omega (arith, first_hit is_other s l.i (omega arith) (ap not (sym c.is_space.ensures ∙ c.if-not-is_space.true)))
-
-pub overflow_add-i : goal.overflow_add-i
-overflow_add-i c = omega arith
-
-pub loop-i-smaller : goal.loop-i-smaller
-loop-i-smaller c = omega arith
-
-pub loop-i-preserved : goal.loop-i-preserved
-loop-i-preserved c =
-    let l = c.loop-i in
-    let s = c.args.s.now in
-    (omega arith, first_miss is_other s l.i (omega arith) (ap not (sym c.is_space.ensures ∙ c.if-not-is_space.false)) ∙ l.invariant.1)
-
 pub returns : goal.returns
-returns c = omega (arith, first-end is_other c.args.s.now c.loop-i.i (omega arith))
+unfolding lead
+returns c =
+    let s = c.args.s.now in
+    let t = c.take_while.ensures in
+    let e = count_from_yields_List c.take_while.result _ c.count.ensures.ran (YieldsList-from_take_while _ is_space (YieldsList-from_slice s cc) t.closure t.done (λ x b q k. search (rules, tests))) ∙ length-prefix_len is_space s in
+    let r = e ∙ sym (first-prefix is_other is_space (λ _. refl) s) in
+    (r, omega (arith, r, first_le is_other s))
