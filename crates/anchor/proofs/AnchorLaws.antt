@@ -1,5 +1,9 @@
 -- Laws of `specs/Anchor.antt`: the text without its markup byte by byte, runs of underscores, where the trimmed text starts and ends, and anchors byte by byte.
 -- Assumes nothing.
+use Rattle.std.specs.Prelude.{Option, Some, None}
+use Rattle.std.specs.Option.{MatchOption, IfSome}
+use Rattle.std.specs.List.{AllZip}
+use Rattle.std.specs.Iterator.{Yields, YieldsFirst, ComparesItemsByEq}
 use Prim.Native.Nat.{ℕ, zero, suc, ◌+◌, ◌-◌, ◌≤◌, ◌<◌}
 use native.Mathlib.Nat.{not-suc-le-zero}
 use native.Mathlib.Numerals.{add-one}
@@ -10,7 +14,7 @@ use mathlib.Core.List.{List, [], ◌∷◌}
 use lib.ListN.{length, take, drop, get_or, drop_of_length-le}
 use lib.Seq.{drop-cons}
 use lib.Dec.{eqb, leb, eqb-suc-suc, eqb-zero-suc, eqb-suc-zero}
-use borrow.Author.Tests.{not-true, not-false, eq-eqb, ne_eqb, eqb-true, leb-true, lt-leb}
+use borrow.Author.Tests.{not-true, not-false, eq-eqb, ne_eqb, eqb-true, eqb-false, leb-true, lt-leb}
 use Rattle.std.proofs.lemmas.List.{get_or-take, get_or-drop}
 use Rattle.text.specs.Bytes.{part, is, any, first, after_last}
 use Rattle.text.specs.Space.{is_space, is_other, lead, kept, trim_start, trim_end, trim}
@@ -524,32 +528,54 @@ pub anchor_nil : anchor_of [] ≡ []
 unfolding anchor_of
 anchor_nil = refl
 
-pub equals_on : (x y : ℕ) (a b : List ℕ) → x ≡ y → equals (x ∷ a) (y ∷ b) ≡ equals a b
+equals_on : (x y : ℕ) (a b : List ℕ) → x ≡ y → equals (x ∷ a) (y ∷ b) ≡ equals a b
 unfolding equals starts_with
 equals_on x y a b e = rw (eqb-suc-suc (length b) (length a), eq-eqb y x (sym e))
 
-pub equals_differ : (x y : ℕ) (a b : List ℕ) → (x ≡ y → ⊥) → equals (x ∷ a) (y ∷ b) ≡ false
+equals_differ : (x y : ℕ) (a b : List ℕ) → (x ≡ y → ⊥) → equals (x ∷ a) (y ∷ b) ≡ false
 unfolding equals starts_with
 equals_differ x y a b e = rw (ne_eqb y x (λ p. e (sym p))) (and-false (eqb (suc (length b)) (suc (length a))))
 
-pub equals_longer : (x : ℕ) (a : List ℕ) → equals (x ∷ a) [] ≡ false
+equals_longer : (x : ℕ) (a : List ℕ) → equals (x ∷ a) [] ≡ false
 unfolding equals
 equals_longer x a = rw (eqb-zero-suc (length a))
 
-pub equals_shorter : (y : ℕ) (b : List ℕ) → equals [] (y ∷ b) ≡ false
+equals_shorter : (y : ℕ) (b : List ℕ) → equals [] (y ∷ b) ≡ false
 unfolding equals
 equals_shorter y b = rw (eqb-suc-zero (length b))
 
-pub equals-nil : equals [] [] ≡ true
+equals-nil : equals [] [] ≡ true
 unfolding equals starts_with
 equals-nil = refl
+
+-- two lists whose items are compared one after the other
+abbrev Next : List ℕ → Option ℕ → List ℕ → Type 0
+Next = YieldsFirst (λ (l : List ℕ). l)
+
+abbrev same_byte : ℕ → ℕ → Type 0
+same_byte x y = eqb x y ≡ true
+
+equals_behind : (xs ys s t u v : List ℕ) → AllZip same_byte xs ys → Yields Next s xs u → Yields Next t ys v → equals s t ≡ equals u v
+equals_behind [] [] s t u v z p q = rw (p, q) refl
+equals_behind [] (y ∷ ys) s t u v z p q = absurd z
+equals_behind (x ∷ xs) [] s t u v z p q = absurd z
+equals_behind (x ∷ xs) (y ∷ ys) s t u v z (j, p, h) (k, q, i) =
+    rw (p, q) (equals_on x y j k (eqb-true x y z.0) ∙ equals_behind xs ys j k u v z.1 h i)
+
+equals_last : (o p : Option ℕ) (s t u v : List ℕ) (r : Bool) → Next s o u → Next t p v
+    → MatchOption o (MatchOption p (r ≡ true) (λ _. r ≡ false)) (λ x. (r ≡ false) × IfSome p (λ y. eqb x y ≡ false)) → r ≡ equals s t
+equals_last None None s t u v r a b l = rw (a.0, b.0) (l ∙ sym equals-nil)
+equals_last None (Some y) s t u v r a b l = rw (a.0, b) (l ∙ sym (equals_shorter y v))
+equals_last (Some x) None s t u v r a b l = rw (a, b.0) (l.0 ∙ sym (equals_longer x u))
+equals_last (Some x) (Some y) s t u v r a b l = rw (a, b) (l.0 ∙ sym (equals_differ x y u v (eqb-false x y l.1)))
+
+pub equals_by : (s t : List ℕ) (r : Bool) → ComparesItemsByEq Next (λ x it. it ≡ x) Next s t eqb r → r ≡ equals s t
+equals_by s t r (it, xs, ys, o, p, u, v, b, (j, y, h), (k, z, i), a, l) = equals_last o p j k u v r h i l ∙ sym (equals_behind xs ys s t j k a y (rw b at z))
 
 pub ruleset ends = (end_on, end_done)
 
 pub ruleset following = (follows_end)
 
 pub ruleset nexts = (plain-none, anchor_kept, anchor_space, anchor_other, anchor_nil)
-
-pub ruleset equalities = (equals_on, equals_differ, equals_longer, equals_shorter, equals-nil)
 
 pub ruleset plains = (plain-none, anchor_nil)

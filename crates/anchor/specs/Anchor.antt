@@ -1,5 +1,5 @@
 -- Document 01, "Assembly and book": "Anchor: `slug`": the anchor of a heading's text, as the Rust's `slug` makes it, but for runs of underscores: document 02, Req 01.
-use Rattle.std.specs.Prelude.{ℕ, suc, ◌+◌, ◌*◌, ◌%◌, ◌≤◌, ◌<◌, Bool, true, false, cond, not, ◌&&◌, ◌||◌, List, [], ◌∷◌, length, get_or, eqb, leb, ◌≡◌, Option, Some, None}
+use Rattle.std.specs.Prelude.{ℕ, suc, ◌+◌, ◌*◌, ◌%◌, ◌≤◌, ◌<◌, Bool, true, false, cond, not, ◌&&◌, ◌||◌, List, [], ◌∷◌, length, eqb, leb, ◌≡◌, Option, Some, None}
 use Rattle.text.specs.Bytes.{part}
 use Rattle.text.specs.Ascii.{is_digit}
 use Rattle.text.specs.Space.{is_space, trim}
@@ -125,11 +125,12 @@ RunStays c t = (eqb c.last 0x5F && c.stays) ≡ true → word_follows (cut_left 
 abbrev pub CursorWithin : AnchorCursor → List ℕ → Type 0
 CursorWithin c t = ((c.at ≤ c.end) × (c.end ≤ length t)) × RunStays c t
 
--- a byte of the text is read: whether it is shown, and what is left after it
-abbrev pub ReadByte : List ℕ → AnchorCursor → TextByte → Type 0
-ReadByte t c r =
-    (plain_left c t ≡ cond r.shown (get_or t c.at 0 ∷ plain_left r.rest t) (plain_left r.rest t))
-    × ((r.rest.at ≡ c.at + 1) × ((r.rest.end ≡ c.end) × CursorWithin r.rest t))
+-- a byte of the text is read: whether it is shown, and what is left after it; or none is left
+abbrev pub ReadByte : List ℕ → AnchorCursor → Option TextByte → Type 0
+ReadByte t c (Some r) =
+    (plain_left c t ≡ cond r.shown (r.byte ∷ plain_left r.rest t) (plain_left r.rest t))
+    × ((r.rest.at ≡ c.at + 1) × ((r.rest.end ≡ c.end) × ((c.at < c.end) × CursorWithin r.rest t)))
+ReadByte t c None = plain_left c t ≡ []
 
 -- a byte of the anchor and what is left after it, or nothing left
 abbrev pub NextByte : List ℕ → AnchorCursor → Option (ℕ × AnchorCursor) → Type 0

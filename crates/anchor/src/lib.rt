@@ -2,10 +2,12 @@
 
 // Anchors: the bytes of a heading text's anchor one after the other, without a buffer.
 ghost use Rattle.std.specs.Prelude.{true, false, cond, ◌&&◌, List, ◌∷◌, ◌≡◌, ℕ, ◌≤◌, ◌<◌, length};
+ghost use Rattle.std.specs.Iterator.{YieldsFirst, item_count};
 ghost use Rattle.text.specs.Bytes.{part, is, any};
 ghost use Rattle.text.specs.Pattern.{equals as equals_to};
 ghost use Rattle.anchor.specs.Anchor.{stands as stands_in, markup_after, is_mark, is_text, is_seen, is_word, is_kept, cut_left, word_follows, is_word_last, slug, anchor_from, CursorWithin, ReadByte, NextByte, plain_end, anchor_of, stirred, number_from, anchor_number};
 
+use std::marker::Model;
 use text::{ascii, bytes, space};
 
 // Where a byte of a heading's text stands.
@@ -34,6 +36,7 @@ pub struct AnchorCursor {
 // A byte of the text that was read: whether it is text and no markup, and what is left.
 #[derive(Clone, Copy)]
 struct TextByte {
+    byte: u8,
     shown: bool,
     rest: AnchorCursor,
 }
@@ -171,11 +174,14 @@ fn run_stays(text: &[u8], from: AnchorCursor) -> bool
     is_word(from.last) && word_follows(text, from)
 }
 
-// Reads the byte at a cursor.
-fn read(text: &[u8], from: AnchorCursor) -> TextByte
-    requires { CursorWithin from text.now × (from.at < from.end) }
+// Reads the byte at a cursor; None at the end.
+fn read(text: &[u8], from: AnchorCursor) -> Option<TextByte>
+    requires { CursorWithin from text.now }
     ensures { ReadByte text.now from result }
 {
+    if from.at == from.end {
+        return None;
+    }
     let b = text[from.at];
     let shown = is_text(from.markup, b);
     let mut rest = AnchorCursor {
@@ -184,19 +190,28 @@ fn read(text: &[u8], from: AnchorCursor) -> TextByte
         ..from
     };
     if !stands(from.markup, b) {
-        return TextByte { shown: false, rest };
+        return Some(TextByte {
+            byte: b,
+            shown: false,
+            rest,
+        });
     }
     if b != b'_' {
         rest.last = b;
-        return TextByte { shown, rest };
+        return Some(TextByte {
+            byte: b,
+            shown,
+            rest,
+        });
     }
     let stays = run_stays(text, rest);
     rest.last = b;
     rest.stays = stays;
-    TextByte {
+    Some(TextByte {
+        byte: b,
         shown: shown | stays,
         rest,
-    }
+    })
 }
 
 // The next byte of an anchor.
@@ -206,37 +221,65 @@ pub fn next(text: &[u8], from: AnchorCursor) -> Option<(u8, AnchorCursor)>
     ensures { NextByte text.now from result }
 {
     let mut c = from;
-    while c.at < c.end {
-        let b = text[c.at];
-        let byte = read(text, c);
-        c = byte.rest;
-        if byte.shown && is_kept(b) {
-            return Some((ascii::lower(b), c));
+    while let Some(read) = read(text, c) {
+        c = read.rest;
+        if read.shown && is_kept(read.byte) {
+            return Some((ascii::lower(read.byte), c));
         }
-        if byte.shown && b == b' ' {
+        if read.shown && read.byte == b' ' {
             return Some((b'-', c));
         }
     }
     None
 }
 
+// The bytes of an anchor, one after the other: those that a cursor has left.
+#[derive(Drop)]
+pub struct AnchorBytes<'a> {
+    text: &'a [u8],
+    left: AnchorCursor,
+}
+
+impl<'a> Model for AnchorBytes<'a> {
+    ghost use Rattle.std.specs.Prelude.{ℕ, List};
+    ghost use Rattle.anchor.specs.Anchor.{anchor_from, CursorWithin};
+
+    ghost Value = { List ℕ };
+
+    ghost view = { λ a. anchor_from a.left a.text.now };
+
+    ghost invariant = { λ a. CursorWithin a.left a.text.now };
+}
+
+impl<'a> Iterator for AnchorBytes<'a> {
+    type Item = u8;
+
+    ghost next_gives = { YieldsFirst (λ left. left) };
+
+    ghost remaining = { item_count (λ left. left) };
+
+    fn next(&mut self) -> Option<u8> {
+        let (byte, left) = next(self.text, self.left)?;
+        self.left = left;
+        Some(byte)
+    }
+}
+
+// The bytes of a heading text's anchor.
+pub fn bytes_of(text: &[u8]) -> AnchorBytes<'_>
+    ensures { result ≡ slug text.now }
+{
+    AnchorBytes {
+        text,
+        left: start(text),
+    }
+}
+
 // Whether two heading texts have the same anchor.
-#[tactic(auto, using(crate::proofs::AnchorLaws::equalities))]
 pub fn same_anchor(s: &[u8], t: &[u8]) -> bool
     ensures { result ≡ equals_to (slug s.now) (slug t.now) }
 {
-    let mut c = start(s);
-    let mut d = start(t);
-    loop {
-        match (next(s, c), next(t, d)) {
-            (Some((a, c2)), Some((b, d2))) if a == b => {
-                c = c2;
-                d = d2;
-            }
-            (None, None) => return true,
-            _ => return false,
-        }
-    }
+    bytes_of(s).eq(bytes_of(t))
 }
 
 // An anchor's number with another byte behind.
@@ -279,18 +322,14 @@ fn number_plain(text: &[u8], from: AnchorCursor) -> usize
 }
 
 // The number of what is left of an anchor.
-#[tactic(auto, using(crate::proofs::AnchorLaws::nexts), unfolding(crate::specs::Anchor::number_from))]
+#[tactic(auto, unfolding(crate::specs::Anchor::number_from))]
 fn number_left(text: &[u8], from: AnchorCursor) -> usize
     requires { CursorWithin from text.now }
     ensures { (result ≡ anchor_number (anchor_from from text.now)) × (result < 0x100_0000_0000) }
 {
-    let mut c = from;
     let mut n = 0;
-    while c.at < c.end {
-        let b = text[c.at];
-        let byte = read(text, c);
-        n = stir_in(n, byte.shown, b);
-        c = byte.rest;
+    for byte in (AnchorBytes { text, left: from }) {
+        n = stir(n, byte);
     }
     n
 }

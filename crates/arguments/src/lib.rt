@@ -63,7 +63,7 @@ fn word_at(env: &impl Env, i: usize) -> Word {
     }
 }
 
-// The allowance that an argument says: a 32-bit number.
+// The allowance that an argument says: a 32-bit number; None where it says none.
 fn allowance_at(env: &impl Env, i: usize) -> Option<usize> {
     let mut word = [0u8; 10];
     let n = env.arg(i, &mut word).unwrap_or(0);
@@ -104,17 +104,15 @@ fn call_at(
 pub fn read(env: &impl Env) -> Result<Call, NoCall>
     ensures { IfOk result Called }
 {
-    let mut url = 1;
     let mut allowance = ALLOWANCE;
     let mut book = None;
-    while url < 4 {
-        match word_at(env, url) {
-            Word::Allowance => allowance = allowance_at(env, url + 1).ok_or(NoCall::Usage)?,
-            Word::Book => book = Some(url + 1),
-            Word::Operand => break,
+    for at in [1, 3] {
+        match word_at(env, at) {
+            Word::Allowance => allowance = allowance_at(env, at + 1).ok_or(NoCall::Usage)?,
+            Word::Book => book = Some(at + 1),
+            Word::Operand => return call_at(env, at, allowance, book),
             Word::Unknown => return Err(NoCall::Usage),
         }
-        url += 2;
     }
-    call_at(env, url, allowance, book)
+    call_at(env, 5, allowance, book)
 }

@@ -1,4 +1,4 @@
--- Laws of the call assemble: its answer by what was assembled, and what `assembly::assemble` asks for once the checks pass. Assumes nothing.
+-- Laws of the call assemble: its answer by what was assembled, once the checks pass. Assumes nothing.
 use Rattle.std.specs.Prelude.{Result, Ok, Err}
 use Prim.Native.Nat.{ℕ, suc, ◌+◌, ◌*◌, ◌≤◌}
 use native.Mathlib.Nat.{suc-mul}
@@ -15,6 +15,8 @@ use Rattle.walk.specs.Outcome.{Outcome, refusal, outcome}
 use Rattle.answer.specs.declared.Refusal.{Refusal}
 use Rattle.answer.specs.declared.Answer.{Answer}
 use Rattle.assembled.specs.Assemble.{assemble}
+use Rattle.listed.specs.Files.{AreListed}
+use Rattle.listed.proofs.FilesLaws.{are_listed}
 use Rattle.book.specs.Book.{members_of}
 use Rattle.book.specs.Calls.{assemble_outcome}
 use Rattle.give.specs.Given.{Fits}
@@ -22,7 +24,7 @@ use Rattle.give.proofs.GivenLaws.{fits_more}
 
 -- once the checks pass
 module _ (index contents list url : List ℕ) (limit out work : ℕ) (p : book_checked index contents list url limit out work ≡ (Ok tt)) where
-  pub assemble-room : (1 ≤ limit) × (limit + limit ≤ work)
+  assemble-room : (1 ≤ limit) × (limit + limit ≤ work)
   assemble-room =
       let f = book_fit index contents list url limit out work p in
       let n : ℕ = length (records index) + length (names list) in
@@ -33,10 +35,13 @@ module _ (index contents list url : List ℕ) (limit out work : ℕ) (p : book_c
   pub assemble_held : (a : Result Answer Refusal) → Fits a limit limit → Fits a out work
   assemble_held a h = fits_more a limit out work (book_fit index contents list url limit out work p).1.0 (omega (arith, assemble-room.1)) h
 
-  pub assemble-passed : {o : Outcome} {hs : List File} → hs ≡ members_of (files index contents) (members (records index) list)
-      → o ≡ outcome (judge 0 limit 0 (assemble url hs)) → o ≡ assemble_outcome index contents list url limit out work
-  unfolding assemble_outcome
-  assemble-passed e h = rw (p, ← e) h
+  module _ {S : List File} (same : S ≡ files index contents) {lines : List ℕ} (named : lines ≡ members (records index) list) where
+    pub can-assemble : length lines ≤ 64 → AreListed (length S) lines × ((1 ≤ limit) × (limit + limit ≤ work))
+    can-assemble few = (rw same (are_listed index contents list url limit out work p named few), assemble-room)
+
+    pub assemble-passed : {o : Outcome} → o ≡ outcome (judge 0 limit 0 (assemble url (members_of S lines))) → o ≡ assemble_outcome index contents list url limit out work
+    unfolding assemble_outcome
+    assemble-passed h = rw (p, ← same, ← named) h
 
 pub assemble-stopped : (index contents list url : List ℕ) (limit out work : ℕ) {x : Refusal} → Err x ≡ book_checked index contents list url limit out work
     → refusal x ≡ assemble_outcome index contents list url limit out work

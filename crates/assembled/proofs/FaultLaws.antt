@@ -2,12 +2,11 @@
 use Rattle.std.specs.Prelude.{Option, Some, None}
 use Prim.Native.Nat.{ℕ, ◌+◌}
 use mathlib.Core.Path.{◌≡◌, refl}
-use mathlib.Core.Bool.{Bool, true, false, cond}
+use mathlib.Core.Bool.{true}
 use mathlib.Core.List.{List, [], ◌∷◌, ◌++◌}
-use lib.Dec.{eqb}
 use Rattle.answer.specs.Answer.{place}
 use Rattle.answer.specs.declared.Place.{Place}
-use Rattle.answer.specs.declared.Refusal.TheVariants.{HeadingLevel, SharedAnchor}
+use Rattle.answer.specs.declared.Refusal.TheVariants.{HeadingLevel}
 use Rattle.text.specs.Bytes.{part}
 use Rattle.anchor.specs.Anchor.{slug}
 use Rattle.heading.specs.declared.walk.LineKind.{LineKind}

@@ -3,16 +3,19 @@
 // The call book: the members of a list filled, and joined into one text, in the output.
 ghost use Rattle.std.specs.Prelude.{◌≡◌, length};
 ghost use Rattle.book.specs.Calls.{book_outcome, answer_of, output_after, work_after};
-ghost use Rattle.give.specs.Given.{read_answer, Fits};
+ghost use Rattle.filling.specs.Filling.{read_filled};
+ghost use Rattle.give.specs.Given.{Fits};
 
 use answer::{Answer, Refusal};
 use fileset::check;
 use fileset::check::Sizes;
+use fileset::members::Records;
+use index::rows::Rows;
 
 // Checks the input, and makes the book at the front of the work buffer.
-fn run(
-    index: &[u8],
-    contents: &[u8],
+fn run<'a>(
+    index: &'a [u8],
+    contents: &'a [u8],
     list: &[u8],
     url: &[u8],
     sizes: Sizes,
@@ -20,15 +23,13 @@ fn run(
     work: &mut [u8],
 ) -> Result<Answer, Refusal>
     requires { sizes.work ≡ length work.old }
-    ensures work_after { read_answer result work.new ≡ book_outcome index.now contents.now list.now url.now sizes.limit allowance sizes.output sizes.work }
+    ensures work_after { read_filled result work.new ≡ book_outcome index.now contents.now list.now url.now sizes.limit allowance sizes.output sizes.work }
     ensures fits { Fits result sizes.output sizes.work }
 {
-    let mut rows = [0usize; 256];
-    let mut lines = [0usize; 64];
-    check::check_book(index, contents, list, url, sizes, &mut rows, &mut lines)?;
-    book_walk::assemble_listed(
-        index, &rows, &lines, contents, list, url, sizes, allowance, work,
-    )
+    let mut rows = Rows::new();
+    let mut lines = Records::new();
+    let files = check::check_book(index, contents, list, url, sizes, &mut rows, &mut lines)?;
+    book_walk::assemble_listed(files, lines.as_slice(), url, sizes.limit, allowance, work)
 }
 
 // A book of the members of a list, with the URL of their repository. The limit, the allowance and both buffers are the caller's.

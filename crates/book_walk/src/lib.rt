@@ -1,70 +1,66 @@
 #![tactic(auto)]
 
 // The walk of a book: the members of a list filled, and joined into one text, at the front of the work buffer.
-ghost use Rattle.std.specs.Prelude.{◌≡◌, ◌≤◌, length, Ok};
-ghost use Rattle.index.specs.Index.{records, files};
-ghost use Rattle.fileset.specs.Check.{book_checked, Passes, Listed};
-ghost use Rattle.fileset.specs.Members.{members};
+ghost use Rattle.std.specs.Prelude.{◌≡◌, ◌+◌, ◌*◌, ◌≤◌, length};
+ghost use Rattle.index.specs.Rows.{AreShort};
+ghost use Rattle.index.specs.FileSets.{files_of};
 ghost use Rattle.walk.specs.Outcome.{outcome};
 ghost use Rattle.walk.specs.Steps.{judge};
-ghost use Rattle.opening.specs.Opening.{files_in};
-ghost use Rattle.members.specs.Members.{files_from};
+ghost use Rattle.members.specs.Members.{all_files};
+ghost use Rattle.listed.specs.Files.{AreListed};
 ghost use Rattle.book.specs.BookWalk.{book};
 ghost use Rattle.made.specs.Made.{book_of, CanMake};
-ghost use Rattle.give.specs.Given.{read_answer, Fits};
+ghost use Rattle.filling.specs.Filling.{read_filled};
+ghost use Rattle.give.specs.Given.{Fits};
 
 use answer::{Answer, Refusal};
-use fileset::check;
-use fileset::check::Sizes;
+use index::file_set::FileSet;
+use members::Member;
 
-// Fills the members of a set, and assembles them at the front of the work buffer. The table of anchors stands behind their slots.
+// Fills members, and assembles them at the front of the work buffer. The table of anchors stands behind their slots.
 fn assemble_made(
-    index: &[u8],
-    rows: &[usize; 256],
-    contents: &[u8],
+    files: FileSet,
     url: &[u8],
-    records: usize,
     limit: usize,
     allowance: usize,
-    set: &mut [usize; 704],
-    count: usize,
+    members: &mut [Member],
     work: &mut [u8],
 ) -> Result<Answer, Refusal>
-    requires { CanMake index.now rows.now (length contents.now) set.old records count limit (length work.old) × (1 ≤ limit) }
-    ensures work_after { read_answer result work.new ≡ outcome (judge allowance limit 0 (book_of (files_in index.now rows.now contents.now records)
-        (files_from index.now contents.now work.old set.old 0 count) url.now)) }
+    requires { CanMake files members.old limit (length work.old) × (1 ≤ limit) }
+    ensures work_after { read_filled result work.new ≡ outcome (judge allowance limit 0 (book_of (files_of files.entry)
+        (all_files files.entry.index.now files.entry.contents.now work.old members.old) url.now)) }
     ensures fits { Fits result limit limit }
 {
-    let files = made::put_made(
-        index, rows, contents, records, limit, allowance, set, count, work,
+    let table = (members.len() + 1) * limit;
+    let taken = made::put_made(files, limit, allowance, members, work)?;
+    let length = assembly::assemble(
+        files.index,
+        files.contents,
+        url,
+        members,
+        limit,
+        table,
+        work,
     )?;
-    let table = (count + 1) * limit;
-    let length = assembly::assemble(index, contents, url, set, count, limit, table, work)?;
-    Ok(Answer::Accepted { length, files })
+    Ok(Answer::Accepted {
+        length,
+        files: taken,
+    })
 }
 
-// The same for the members of a list, once the checks pass.
+// The same for the members of a list: each line has the number of a file.
 pub fn assemble_listed(
-    index: &[u8],
-    rows: &[usize; 256],
-    lines: &[usize; 64],
-    contents: &[u8],
-    list: &[u8],
+    files: FileSet,
+    lines: &[usize],
     url: &[u8],
-    sizes: Sizes,
+    limit: usize,
     allowance: usize,
     work: &mut [u8],
 ) -> Result<Answer, Refusal>
-    requires { (book_checked index.now contents.now list.now url.now sizes.limit sizes.output sizes.work ≡ (Ok tt)) × (Passes index.now contents.now rows.now × (Listed (records index.now) list.now lines.now (Ok tt) × (sizes.work ≡ length work.old))) }
-    ensures work_after { read_answer result work.new ≡ outcome (judge allowance sizes.limit 0 (book (files index.now contents.now) (members (records index.now) list.now) url.now)) }
-    ensures fits { Fits result sizes.limit sizes.limit }
+    requires { AreShort files.rows.now × (AreListed (length (files_of files)) lines.now × ((1 ≤ limit) × ((length (files_of files) + length lines.now + 2) * limit ≤ length work.old))) }
+    ensures work_after { read_filled result work.new ≡ outcome (judge allowance limit 0 (book (files_of files.entry) lines.now url.now)) }
+    ensures fits { Fits result limit limit }
 {
-    let count = fileset::members::line_count(list);
-    let records = check::record_count(index);
-    let mut set = [0usize; 704];
-    listed::put_files(rows, lines, count, &mut set);
-    let limit = sizes.limit;
-    assemble_made(
-        index, rows, contents, url, records, limit, allowance, &mut set, count, work,
-    )
+    let mut members = listed::members_of(files, lines);
+    assemble_made(files, url, limit, allowance, members.as_mut_slice(), work)
 }

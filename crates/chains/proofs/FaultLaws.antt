@@ -6,13 +6,15 @@ use mathlib.Core.Path.{◌≡◌, refl}
 use mathlib.Core.Bool.{Bool, true, false, cond}
 use mathlib.Core.List.{List, [], ◌∷◌, ◌++◌}
 use lib.ListN.{length, get_or, set}
-use lib.Dec.{eqb, ltb}
+use lib.Dec.{ltb}
 use lib.IntN.{ℤ, pos, ◌+ℤ◌}
 use Rattle.answer.specs.Answer.{place}
 use Rattle.answer.specs.declared.Place.{Place}
 use Rattle.answer.specs.declared.Refusal.{Refusal}
-use Rattle.answer.specs.declared.Refusal.TheVariants.{NestedRegion, FragmentMarker, UnclosedRegion, OnChain, HeadingLevel}
+use Rattle.answer.specs.declared.Refusal.TheVariants.{OnChain, HeadingLevel}
 use Rattle.text.specs.Pattern.{equals}
+use Rattle.marker.specs.declared.problem.Problem.{Problem}
+use Rattle.marker.specs.declared.problem.Problem.TheVariants as problems
 use Rattle.scan.specs.Scan.{scan, regions_of}
 use Rattle.scan.specs.declared.event.Event.{Event}
 use Rattle.scan.specs.declared.event.Event.TheVariants.{OfSpan, OfRegion, OfProblem}
@@ -30,15 +32,10 @@ use Rattle.embedding.specs.Embed.{embed_told, embed}
 use Rattle.chains.specs.Chains.{Chain, plain, Rest, Next, stop, on, file_at, next_found, next, branch, through, found, grow, free, chain, no_marks, made, faults_rest, faults, region_of, onward, leads, when, chain_at}
 
 -- 9 to 11
-refusal_fault : (k : ℕ) (p : Place) → all_faults (refusal_of k p) ≡ true
+refusal_fault : (k : Problem) (p : Place) → all_faults (refusal_of k p) ≡ true
 unfolding all_faults
-refusal_fault k p = go (eqb k 2) (eqb k 3) (eqb k 4)
-  where
-    go : (a b c : Bool) → all_faults (cond a (NestedRegion p ∷ []) (cond b (FragmentMarker p ∷ []) (cond c (UnclosedRegion p ∷ []) []))) ≡ true
-    go true b c = refl
-    go false true c = refl
-    go false false true = refl
-    go false false false = refl
+refusal_fault problems.NestedRegion p = refl
+refusal_fault k p = refl
 
 problems_fault : (f : ℕ) (es : List Event) → all_faults (problems_of f es) ≡ true
 unfolding problems_of all_faults

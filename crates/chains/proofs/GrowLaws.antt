@@ -10,7 +10,7 @@ use lib.ListN.{length, get_or, set, length-set}
 use Rattle.text.specs.Pattern.{equals, later}
 use Rattle.text.proofs.PatternLaws.{equals-same}
 use Rattle.answer.specs.declared.Refusal.TheVariants.{OnChain}
-use Rattle.index.specs.Index.{Record, File, files_from, first_named, find_record, find_file}
+use Rattle.index.specs.Index.{File, first_named, find_file}
 use Rattle.regions.specs.Regions.{HostRegion, Regions, behind, region, Scanned, problem, noRegion, regions, scanned}
 use Rattle.chains.specs.Chains.{Chain, wrong, host, file_at, Next, stop, on, next, next_found, branch, through, found, grow, free, chain}
 
@@ -35,12 +35,6 @@ find-within name (f ∷ S) d e = go (equals name f.name) (find_file name S) refl
     go true o q h ih = let z : 0 ≡ d = cc in omega arith
     go false (Some k) q h ih = let z : 1 + k ≡ d = cc in omega (arith, ih k q)
     go false None q h ih = let z : ◌≡◌ {A = ℕ} 0 1 = cc in absurd (omega arith)
-
--- a name is looked for among the files as among the records
-pub find-files : (name : List ℕ) (k : ℕ) (contents : List ℕ) (rs : List Record) → find_file name (files_from k contents rs) ≡ find_record name rs
-unfolding files_from first_named
-find-files name k contents [] = refl
-find-files name k contents (r ∷ rs) = ap (λ (o : Option ℕ). cond (equals name r.name) (Some 0) (later 1 o)) (find-files name (k + 1) contents rs)
 
 -- the file that is found has the name
 pub find-name : (name : List ℕ) (S : List File) (d : ℕ) → find_file name S ≡ Some d → (file_at S d).name ≡ name

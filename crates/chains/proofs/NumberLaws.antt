@@ -6,14 +6,15 @@ use mathlib.Core.Path.{◌≡◌, refl}
 use mathlib.Core.Bool.{Bool, true, false, cond}
 use mathlib.Core.List.{List, [], ◌∷◌, ◌++◌}
 use lib.ListN.{get_or, set, take, drop}
-use lib.Dec.{eqb}
 use Rattle.answer.specs.Answer.{place}
 use Rattle.answer.specs.declared.Place.{Place}
 use Rattle.answer.specs.declared.Refusal.{Refusal}
-use Rattle.answer.specs.declared.Refusal.TheVariants.{NestedRegion, FragmentMarker, UnclosedRegion, OnChain}
+use Rattle.answer.specs.declared.Refusal.TheVariants.{OnChain}
 use Rattle.text.specs.Bytes.{part}
 use Rattle.text.specs.Lines.{pieces}
 use Rattle.text.specs.Pattern.{equals}
+use Rattle.marker.specs.declared.problem.Problem.{Problem}
+use Rattle.marker.specs.declared.problem.Problem.TheVariants as problems
 use Rattle.scan.specs.Scan.{scan, regions_of}
 use Rattle.scan.specs.declared.event.Event.{Event}
 use Rattle.scan.specs.declared.event.Event.TheVariants.{OfSpan, OfRegion, OfProblem}
@@ -39,14 +40,9 @@ alike-append [] (y ∷ b) xs ys p q = absurd p
 alike-append (x ∷ a) [] xs ys p q = absurd p
 alike-append (x ∷ a) (y ∷ b) xs ys p q = tt
 
-refusal_alike : (k : ℕ) (p q : Place) → Alike (refusal_of k p) (refusal_of k q)
-refusal_alike k p q = go (eqb k 2) (eqb k 3) (eqb k 4)
-  where
-    go : (a b c : Bool) → Alike (cond a (NestedRegion p ∷ []) (cond b (FragmentMarker p ∷ []) (cond c (UnclosedRegion p ∷ []) []))) (cond a (NestedRegion q ∷ []) (cond b (FragmentMarker q ∷ []) (cond c (UnclosedRegion q ∷ []) [])))
-    go true b c = tt
-    go false true c = tt
-    go false false true = tt
-    go false false false = tt
+refusal_alike : (k : Problem) (p q : Place) → Alike (refusal_of k p) (refusal_of k q)
+refusal_alike problems.NestedRegion p q = tt
+refusal_alike k p q = tt
 
 problems_alike : (j k : ℕ) (es : List Event) → Alike (problems_of j es) (problems_of k es)
 unfolding problems_of

@@ -7,9 +7,7 @@ use mathlib.Core.Path.{◌≡◌, refl}
 use mathlib.Core.Bool.{Bool, true, false, cond}
 use mathlib.Core.List.{List, [], ◌∷◌, ◌++◌, map}
 use lib.ListN.{length, get_or, set, drop}
-use lib.Dec.{eqb}
 use lib.IntN.{ℤ, pos, ◌+ℤ◌}
-use borrow.Author.Tests.{eqb-true}
 use Rattle.answer.specs.Answer.{place}
 use Rattle.answer.specs.declared.Place.{Place}
 use Rattle.answer.specs.declared.Refusal.{Refusal}
@@ -18,8 +16,8 @@ use Rattle.text.specs.Lines.{Line, lines}
 use Rattle.text.specs.Pattern.{equals}
 use Rattle.marker.specs.declared.line.Kind.{Kind}
 use Rattle.marker.specs.declared.line.Kind.TheVariants.{Plain, Fence, Fault, Closes, Opens, Spans}
-use Rattle.marker.specs.declared.span.Stop.{Stop}
-use Rattle.marker.specs.declared.span.Stop.TheVariants.{AtProblem, AtSpanEnd}
+use Rattle.marker.specs.declared.problem.Problem.{Problem}
+use Rattle.marker.specs.declared.problem.Problem.TheVariants as problems
 use Rattle.scan.specs.Scan.{Reading, read_line, stop_events, span_events, closed_by, events_of, after, kind_at, unclosed, last_of, scan_from, begin, scan, regions_of}
 use Rattle.scan.specs.declared.state.Opener.{Opener}
 use Rattle.scan.specs.declared.event.Event.{Event}
@@ -45,7 +43,7 @@ use Rattle.chains.proofs.GrowLaws.{next-free}
 abbrev Lined : Event → Type 0
 Lined (OfSpan x) = Unit {0}
 Lined (OfRegion g) = 1 ≤ g.opener.line
-Lined (OfProblem n k) = (k ≡ 5 → ⊥) → 1 ≤ n
+Lined (OfProblem n k) = (k ≡ problems.UnclosedFence → ⊥) → 1 ≤ n
 
 abbrev LinedOpen : Option Opener → Type 0
 LinedOpen None = Unit {0}
@@ -56,10 +54,10 @@ unfolding Each
 spans_lined [] = tt
 spans_lined (x ∷ xs) = (tt, spans_lined xs)
 
-stop_lined : (n : ℕ) (t : Stop) → 1 ≤ n → Each Lined (stop_events n t)
+stop_lined : (n : ℕ) (t : Option Problem) → 1 ≤ n → Each Lined (stop_events n t)
 unfolding Each
-stop_lined n (AtProblem k) h = (λ q. h, tt)
-stop_lined n AtSpanEnd h = tt
+stop_lined n (Some k) h = (λ q. h, tt)
+stop_lined n None h = tt
 
 closed_lined : (n o : ℕ) (r : Option Opener) → LinedOpen r → Each Lined (closed_by n o r)
 unfolding Each
@@ -72,7 +70,7 @@ events_lined st n o l Plain h q = tt
 events_lined st n o l Fence h q = tt
 events_lined st n o l (Fault k) h q = (λ z. h, tt)
 events_lined st n o l Closes h q = closed_lined n o st.region q
-events_lined st n o l (Opens a e p) h q = tt
+events_lined st n o l (Opens f) h q = tt
 events_lined st n o l (Spans i) h q =
     let r : Reading = read_line n (o + i) (drop i l) in
     each_append Lined (map OfSpan r.spans) (stop_events n r.stop) (spans_lined r.spans) (stop_lined n r.stop h)
@@ -83,7 +81,7 @@ after_lined st n o Plain h q = q
 after_lined st n o Fence h q = q
 after_lined st n o (Fault k) h q = q
 after_lined st n o Closes h q = tt
-after_lined st n o (Opens a e p) h q = h
+after_lined st n o (Opens f) h q = h
 after_lined st n o (Spans i) h q = q
 
 last_lined : (st : State) (n : ℕ) → LinedOpen st.region → Each Lined (last_of st n)
@@ -94,7 +92,7 @@ last_lined st n q = each_append Lined (unclosed st.region) _ (at-region st.regio
     at-region None q = tt
     at-region (Some g) q = (λ z. q, tt)
 
-    at-fence : (b : Bool) → Each Lined (cond b (OfProblem n 5 ∷ []) [])
+    at-fence : (b : Bool) → Each Lined (cond b (OfProblem n problems.UnclosedFence ∷ []) [])
     at-fence true = (λ z. absurd (z refl), tt)
     at-fence false = tt
 
@@ -163,17 +161,13 @@ module _ {P : Refusal → Type 0} {low n : ℕ} (h : FillPlaces P low n) where
   problems-each k [] a b q = tt
   problems-each k (OfSpan x ∷ es) a b q = problems-each k es a b q.1
   problems-each k (OfRegion g ∷ es) a b q = problems-each k es a b q.1
-  problems-each k (OfProblem l j ∷ es) a b q = each_append P (refusal_of j (place k l)) _ (at-number (eqb j 2) (eqb j 3) (eqb j 4) refl refl refl) (problems-each k es a b q.1)
+  problems-each k (OfProblem l j ∷ es) a b q = each_append P (refusal_of j (place k l)) _ (at-problem j q.0) (problems-each k es a b q.1)
     where
-      line : (i : ℕ) → eqb j i ≡ true → (i ≡ 5 → ⊥) → AtLine P (place k l)
-      line i e d = h.at-line k l a b (q.0 (λ z. d (let y : j ≡ i = eqb-true j i e in omega arith)))
-
-      at-number : (x y z : Bool) → eqb j 2 ≡ x → eqb j 3 ≡ y → eqb j 4 ≡ z
-          → Each P (cond x (NestedRegion (place k l) ∷ []) (cond y (FragmentMarker (place k l) ∷ []) (cond z (UnclosedRegion (place k l) ∷ []) [])))
-      at-number true y z e f g = ((line 2 e (λ w. omega arith)).nested, tt)
-      at-number false true z e f g = ((line 3 f (λ w. omega arith)).marker, tt)
-      at-number false false true e f g = ((line 4 g (λ w. omega arith)).unclosed, tt)
-      at-number false false false e f g = tt
+      at-problem : (i : Problem) → ((i ≡ problems.UnclosedFence → ⊥) → 1 ≤ l) → Each P (refusal_of i (place k l))
+      at-problem problems.NestedRegion f = ((h.at-line k l a b (f (λ e. let z : ◌≡◌ {A = ℕ} 0 1 = cc in omega arith))).nested, tt)
+      at-problem problems.FragmentMarker f = ((h.at-line k l a b (f (λ e. let z : ◌≡◌ {A = ℕ} 0 1 = cc in omega arith))).marker, tt)
+      at-problem problems.UnclosedRegion f = ((h.at-line k l a b (f (λ e. let z : ◌≡◌ {A = ℕ} 0 1 = cc in omega arith))).unclosed, tt)
+      at-problem i f = tt
 
   -- a region's own place, and 12
   record Good (g : HostRegion) : Type 0 where

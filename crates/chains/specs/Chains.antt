@@ -8,7 +8,8 @@ use Rattle.answer.specs.declared.Refusal.TheVariants.{OnChain, Absent}
 use Rattle.text.specs.Lines.{LF}
 use Rattle.text.specs.Pattern.{equals}
 use Rattle.text.specs.Split.{join}
-use Rattle.index.specs.Index.{File, file_of, find_file}
+use Rattle.index.specs.Index.{File, find_file}
+pub use Rattle.index.specs.Index.{file_at}
 use Rattle.walk.specs.Parts.{Part, part_made, part_faults, unless, and_then, if_made}
 use Rattle.regions.specs.Regions.{HostRegion, Regions, behind, region, Scanned, problem, noRegion, regions, scanned}
 use Rattle.embedding.specs.Embed.{embed}
@@ -30,10 +31,6 @@ mutual
 pub data Next : Type 0 where
   stop : Refusal → Next
   on : ℕ → Next
-
--- file k of the set, counted from 0
-abbrev pub file_at : List File → ℕ → File
-file_at S k = get_or S k (file_of 0 [] [])
 
 -- 13 "names a file on the chain": "the chain starts with the host's name, and names compare as bytes"; 14 "file not in the index". The chain started with
 -- the file named top, and the files m were taken in since

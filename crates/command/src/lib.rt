@@ -7,7 +7,10 @@ ghost use Rattle.arguments.specs.Arguments.{Called};
 use answer::Answer;
 use arguments::{Call, NoCall};
 use notes::buffers;
-use station::failed;
+use report::named::Input;
+use station::failed::Words;
+use station::note::Notes;
+use station::{argument, failed};
 use std::env::Env;
 use std::fs::Files;
 use std::io::{Print, Write};
@@ -45,7 +48,7 @@ fn give<R: Env + Files + Print>(
     match rt.write_all(text) {
         Ok(()) => BOOK,
         Err(e) => {
-            let _ = failed::say_failed(to, b"standard output", e);
+            let _ = failed::say(to, b"standard output", Words(e));
             NO_CALL
         }
     }
@@ -57,24 +60,21 @@ fn make<R: Env + Files + Print>(
     to: &mut impl Write,
     call: Call,
     index: &[u8],
-    contents: &[u8],
-    list: &[u8],
-    starts: &[usize; 65],
+    input: Input<'_>,
 ) -> u8
-    requires { Called call × (length list.now ≤ 65536) }
+    requires { Called call × (length input.list.now ≤ 65536) }
     ensures { result ≤ 2 }
 {
     let mut out = buffers::text_buffer();
     let mut work = buffers::work_buffer();
     let mut url = [0u8; 4096];
-    let n = rt.arg(call.url, &mut url).unwrap_or(0);
-    let lines = bytes::count_byte(list, b'\n');
+    let lines = bytes::count_byte(input.list, b'\n');
     let limit = station::largest_limit(WORK, call.notes, lines);
     let answer = book_call::book(
         index,
-        contents,
-        list,
-        &url[..n],
+        input.contents,
+        input.list,
+        argument::read(rt, call.url, &mut url),
         limit,
         call.allowance,
         &mut out,
@@ -83,9 +83,8 @@ fn make<R: Env + Files + Print>(
     match answer {
         Ok(Answer::Accepted { length, .. }) => give(rt, to, call.book, &out, length),
         Ok(Answer::NoRegion) => NO_CALL,
-        Err(_) => {
-            let numbers = answer::numbers(answer);
-            let _ = report::say_refusal(rt, to, call.url, numbers, starts, contents, list);
+        Err(refusal) => {
+            let _ = report::say_refusal(rt, to, call.url, refusal, input);
             REFUSED
         }
     }
@@ -102,7 +101,7 @@ fn call_on<R: Env + Files + Print>(rt: &R, to: &mut impl Write, call: Call) -> u
     };
     let mut index = buffers::index_buffer();
     let mut contents = buffers::text_buffer();
-    let mut starts = [0usize; 65];
+    let mut notes = Notes::new();
     let Some(indexed) = notes::read_notes(
         rt,
         to,
@@ -110,19 +109,16 @@ fn call_on<R: Env + Files + Print>(rt: &R, to: &mut impl Write, call: Call) -> u
         call.notes,
         &mut index,
         &mut contents,
-        &mut starts,
+        &mut notes,
     ) else {
         return NO_CALL;
     };
-    make(
-        rt,
-        to,
-        call,
-        &index[..indexed],
-        &contents,
-        &list[..listed],
-        &starts,
-    )
+    let input = Input {
+        list: &list[..listed],
+        contents: &contents,
+        notes: &notes,
+    };
+    make(rt, to, call, &index[..indexed], input)
 }
 
 // Whether the book can go where it is to go: to no file, or to one that is none of those read.

@@ -1,5 +1,5 @@
 -- The fence that is open behind a line is CommonMark's, in the heading walk, where no named departure holds, and only there. Assumes nothing.
-use Rattle.std.specs.Prelude.{Option, Some, None}
+use Rattle.std.specs.Prelude.{Option, Some, None, is_some}
 use Prim.Native.Nat.{ℕ, ◌≤◌, ◌<◌}
 use mathlib.Core.Path.{◌≡◌, refl, sym, ◌∙◌, ap}
 use mathlib.Core.Bool.{Bool, true, false, cond, not, false≢true}
@@ -10,9 +10,8 @@ use lib.Dec.{eqb, leb}
 use Rattle.text.specs.Bytes.{any}
 use Rattle.text.specs.Space.{lead, trim_start}
 use Rattle.text.proofs.PatternLaws.{and_left, and_right}
-use Rattle.fence.specs.Fences.{opener, opens, is_fence}
+use Rattle.fence.specs.Fences.{opener, is_fence}
 use Rattle.fence.specs.declared.Fence.{Fence}
-use Rattle.fence.specs.declared.Fence.TheVariants.{Outside, Ticks, Tildes}
 use Rattle.fence.proofs.FenceLaws.{fence_opener}
 use Rattle.heading.specs.Walk.{closes, step_after, outside_after}
 use Rattle.heading.proofs.WalkLaws.{closes-ticks, closes_tildes}
@@ -174,16 +173,14 @@ apart o l h =
     or text-apart o l h
 
 -- the walk
-after-outside : (comment : Bool) (l : List ℕ) (f : Fence) → (outside_after comment l f).fence ≡ f
+after-outside : (comment : Bool) (l : List ℕ) (f : Option Fence) → (outside_after comment l f).fence ≡ f
 unfolding outside_after
-after-outside comment l Outside = refl
-after-outside comment l Ticks = refl
-after-outside comment l Tildes = refl
+after-outside comment l None = refl
+after-outside comment l (Some f) = refl
 
-after_open : (m : Mark) (comment : Bool) (l : List ℕ) → (step_after (kind_of_mark m) comment l).fence ≡ cond (closes (kind_of_mark m) l) Outside (kind_of_mark m)
+after_open : (m : Mark) (comment : Bool) (l : List ℕ) → (step_after (Some (kind_of_mark m)) comment l).fence ≡ cond (closes (kind_of_mark m) l) None (Some (kind_of_mark m))
 unfolding step_after
-after_open backtick comment l = refl
-after_open tilde comment l = refl
+after_open m comment l = refl
 
 opener_cr : (l : List ℕ) → opener (l ++ (0x0D ∷ [])) ≡ opener l
 unfolding opener
@@ -194,34 +191,29 @@ unfolding step_after
 same None comment l h d = after-outside comment l (opener l) ∙ opened l (three_of backtick l) (three_of tilde l) refl refl d
 same (Some f) comment l h d = after_open f.mark comment l ∙ go (three_of f.mark l) (same_kind f.mark l (three_of f.mark l) refl) (closed f l (three_of f.mark l) refl h d)
   where
-    go : (b : Bool) → closes (kind_of_mark f.mark) l ≡ b → closes_code f l ≡ b → cond (closes (kind_of_mark f.mark) l) Outside (kind_of_mark f.mark) ≡ as_fence (code_after (Some f) l)
+    go : (b : Bool) → closes (kind_of_mark f.mark) l ≡ b → closes_code f l ≡ b → cond (closes (kind_of_mark f.mark) l) None (Some (kind_of_mark f.mark)) ≡ as_fence (code_after (Some f) l)
     go true p q = rw (p, q)
     go false p q = rw (p, q)
 
-pub seen_opens : (l : List ℕ) → opens (opener l) ≡ is_seen None l
+pub seen_opens : (l : List ℕ) → is_some (opener l) ≡ is_seen None l
 unfolding is_fence
 seen_opens l = fence_opener l
 
-pub mark-opens : (m : Mark) → opens (kind_of_mark m) ≡ true
-mark-opens backtick = refl
-mark-opens tilde = refl
-
 parts : (o : Option CodeFence) (comment : Bool) (l : List ℕ) → Apart o l → (step_after (as_fence o) comment l).fence ≡ as_fence (code_after o l) → ⊥
 unfolding step_after
-parts None comment l a e = false≢true (ap (λ (o : Option CodeFence). opens (as_fence o)) (sym a.missed) ∙ (ap opens (sym e ∙ after-outside comment l (opener l)) ∙ (seen_opens l ∙ a.seen)))
+parts None comment l a e = false≢true (ap (λ (o : Option CodeFence). is_some (as_fence o)) (sym a.missed) ∙ (ap is_some (sym e ∙ after-outside comment l (opener l)) ∙ (seen_opens l ∙ a.seen)))
 parts (Some f) comment l a e =
-    let p : (step_after (kind_of_mark f.mark) comment l).fence ≡ Outside = after_open f.mark comment l ∙ rw (same_kind f.mark l true a.seen) in
-    let q : as_fence (code_after (Some f) l) ≡ kind_of_mark f.mark = rw a.missed in
-    false≢true (ap opens (sym p ∙ (e ∙ q)) ∙ mark-opens f.mark)
+    let p : (step_after (Some (kind_of_mark f.mark)) comment l).fence ≡ None = after_open f.mark comment l ∙ rw (same_kind f.mark l true a.seen) in
+    let q : as_fence (code_after (Some f) l) ≡ Some (kind_of_mark f.mark) = rw a.missed in
+    false≢true (ap is_some (sym p ∙ (e ∙ q)))
 
 -- a CR at the end of our line is no part of CommonMark's
-step_cr : (f : Fence) (comment : Bool) (l : List ℕ) → (step_after f comment (l ++ (0x0D ∷ []))).fence ≡ (step_after f comment l).fence
+step_cr : (f : Option Fence) (comment : Bool) (l : List ℕ) → (step_after f comment (l ++ (0x0D ∷ []))).fence ≡ (step_after f comment l).fence
 unfolding step_after closes
-step_cr Outside comment l = after-outside comment _ (opener (l ++ (0x0D ∷ []))) ∙ (opener_cr l ∙ sym (after-outside comment l (opener l)))
-step_cr Ticks comment l = rw (opener_cr l)
-step_cr Tildes comment l = rw (opener_cr l)
+step_cr None comment l = after-outside comment _ (opener (l ++ (0x0D ∷ []))) ∙ (opener_cr l ∙ sym (after-outside comment l (opener l)))
+step_cr (Some f) comment l = rw (opener_cr l)
 
-step-ended : (f : Fence) (comment : Bool) (l : List ℕ) → (step_after f comment l).fence ≡ (step_after f comment (ended l)).fence
+step-ended : (f : Option Fence) (comment : Bool) (l : List ℕ) → (step_after f comment l).fence ≡ (step_after f comment (ended l)).fence
 step-ended f comment = by_ended (λ l m. (step_after f comment l).fence ≡ (step_after f comment m).fence) (λ l. refl) (step_cr f comment)
 
 pub same_fence : SameFence

@@ -12,8 +12,9 @@ use Rattle.text.specs.Space.{is_space, lead, trim_start, trim}
 use Rattle.text.specs.Bytes.{any, first}
 use Rattle.text.proofs.BytesLaws.{or_left, or_right}
 use Rattle.text.proofs.PatternLaws.{and_left, and_right}
-use Rattle.fence.specs.Fences.{is_fence, opener, opens}
+use Rattle.fence.specs.Fences.{is_fence, opener}
 use Rattle.marker.specs.Marker.{OPEN, CLOSE, OPEN-FRAGMENT, fragment_of, fragment_kind, marked_kind, kind_of}
+use Rattle.marker.specs.declared.problem.Problem.TheVariants.{FragmentMarker}
 use Rattle.marker.specs.declared.line.Kind.{Kind}
 use Rattle.marker.specs.declared.line.Kind.TheVariants.{Plain, Fence, Fault, Closes, Opens, Spans}
 use Rattle.heading.specs.Walk.{closes, step_after, outside_after, comment_after}
@@ -25,7 +26,7 @@ use Rattle.commonmark.specs.Fences.{three_of, is_seen, other_of, other_kind_clos
 use Rattle.commonmark.proofs.BoolLaws.{◌or◌}
 use Rattle.commonmark.proofs.LineLaws.{by_ended, three_cr}
 use Rattle.commonmark.proofs.FenceLaws.{not_both}
-use Rattle.commonmark.proofs.FenceTheorem.{opened, closed, not_closing, IsMissed, apart, one-kind, seen_opens, mark-opens}
+use Rattle.commonmark.proofs.FenceTheorem.{opened, closed, not_closing, IsMissed, apart, one-kind, seen_opens}
 
 -- a kind that is no fence
 abbrev IsOther : Kind → Type 0
@@ -33,7 +34,7 @@ IsOther Plain = Unit {0}
 IsOther Fence = ⊥
 IsOther (Fault k) = Unit {0}
 IsOther Closes = Unit {0}
-IsOther (Opens a e peer) = Unit {0}
+IsOther (Opens p) = Unit {0}
 IsOther (Spans i) = Unit {0}
 
 kept : (st : State) (n at : ℕ) (k : Kind) → IsOther k → (after st n at k).fence ≡ st.fence
@@ -42,7 +43,7 @@ kept st n at Plain h = refl
 kept st n at Fence h = absurd h
 kept st n at (Fault k) h = refl
 kept st n at Closes h = refl
-kept st n at (Opens a e peer) h = refl
+kept st n at (Opens p) h = refl
 kept st n at (Spans i) h = refl
 
 other_fragment : (b : Bool) (i : ℕ) (l : List ℕ) (f : Option Fragment) → IsOther (fragment_kind b i l f)
@@ -51,7 +52,7 @@ other_fragment true i l (Some p) = tt
 other_fragment false i l (Some p) = tt
 other_fragment b i l None = go (contains OPEN-FRAGMENT l)
   where
-    go : (x : Bool) → IsOther (cond x (Fault 3) (Spans i))
+    go : (x : Bool) → IsOther (cond x (Fault FragmentMarker) (Spans i))
     go true = tt
     go false = tt
 
@@ -85,13 +86,13 @@ own : (m : Mark) (l : List ℕ) → three_of (other_of m) l ≡ false → is_fen
 own backtick l h = either_kind l ∙ or_here (three_of backtick l) (three_of tilde l) h
 own tilde l h = either_kind l ∙ rw h
 
-code_opens : (o : Option CodeFence) → opens (as_fence o) ≡ is_some o
+code_opens : (o : Option CodeFence) → is_some (as_fence o) ≡ is_some o
 code_opens None = refl
-code_opens (Some f) = mark-opens f.mark
+code_opens (Some f) = refl
 
 same : (o : Option CodeFence) (st : State) (n at : ℕ) (l : List ℕ) → IsFence o → st.fence ≡ is_some o → scan_departs o l ≡ false → cond (is_fence l) (not st.fence) st.fence ≡ is_some (code_after o l)
 unfolding scan_departs
-same None st n at l h e d = go (is_fence l) ∙ (either_kind l ∙ (sym (seen_opens l) ∙ (ap opens (opened l (three_of backtick l) (three_of tilde l) refl refl (or_right (other_kind_closes None l) _ d)) ∙ code_opens (code_opener l))))
+same None st n at l h e d = go (is_fence l) ∙ (either_kind l ∙ (sym (seen_opens l) ∙ (ap is_some (opened l (three_of backtick l) (three_of tilde l) refl refl (or_right (other_kind_closes None l) _ d)) ∙ code_opens (code_opener l))))
   where
     go : (b : Bool) → cond b (not st.fence) st.fence ≡ b
     go true = rw e

@@ -4,7 +4,7 @@ use Rattle.text.specs.Bytes.{is, any}
 use Rattle.text.specs.Pattern.{bytes, starts_with}
 use Rattle.text.specs.Space.{lead, trim_start}
 use Rattle.fence.specs.declared.Fence.{Fence}
-use Rattle.fence.specs.declared.Fence.TheVariants.{Outside, Ticks, Tildes}
+use Rattle.fence.specs.declared.Fence.TheVariants.{Ticks, Tildes}
 use Rattle.scan.specs.Scan.{after, kind_at}
 use Rattle.scan.specs.declared.state.State.{State}
 use Rattle.heading.specs.Walk.{step_after}
@@ -69,9 +69,9 @@ abbrev pub kind_of_mark : Mark → Fence
 kind_of_mark backtick = Ticks
 kind_of_mark tilde = Tildes
 
-abbrev pub as_fence : Option CodeFence → Fence
-as_fence None = Outside
-as_fence (Some f) = kind_of_mark f.mark
+abbrev pub as_fence : Option CodeFence → Option Fence
+as_fence None = None
+as_fence (Some f) = Some (kind_of_mark f.mark)
 
 -- an opener has three bytes or more
 abbrev pub IsFence : Option CodeFence → Type 0
@@ -103,7 +103,7 @@ abbrev pub StaysFence : Type 0
 StaysFence = (o : Option CodeFence) (l : List ℕ) → IsFence o → IsFence (code_after o l)
 
 -- a line on which a departure holds, and what is open behind it for us and for CommonMark
-abbrev pub Parts : (Option CodeFence → List ℕ → Bool) → Option CodeFence → List ℕ → Fence → Fence → Type 0
+abbrev pub Parts : (Option CodeFence → List ℕ → Bool) → Option CodeFence → List ℕ → Option Fence → Option Fence → Type 0
 Parts test o l ours theirs = (test o (ended l) ≡ true) × (((step_after (as_fence o) false l).fence ≡ ours) × (as_fence (code_after o (ended l)) ≡ theirs))
 
 abbrev ticks : ℕ → Option CodeFence
@@ -112,14 +112,14 @@ ticks n = Some (record { mark = backtick; length = n })
 -- each of them parts the two, as an opener or as a closer
 abbrev pub EachParts : Type 0
 EachParts =
-    Parts indented_by_four None (bytes "    ```") Ticks Outside
-    × (Parts indented_by_four (ticks 3) (bytes "    ```") Outside Ticks
-    × (Parts other_space_before None (0x09 ∷ bytes "~~~") Tildes Outside
-    × (Parts other_space_before (ticks 3) (0x0B ∷ bytes "```") Outside Ticks
-    × (Parts backtick_in_info None (bytes "```a`") Ticks Outside
-    × (Parts shorter_closer (ticks 4) (bytes "```") Outside Ticks
-    × (Parts text_after_closer (ticks 3) (bytes "```a") Outside Ticks
-    × Parts text_after_closer (ticks 3) (bytes "```" ++ (0x0B ∷ [])) Outside Ticks))))))
+    Parts indented_by_four None (bytes "    ```") (Some Ticks) None
+    × (Parts indented_by_four (ticks 3) (bytes "    ```") None (Some Ticks)
+    × (Parts other_space_before None (0x09 ∷ bytes "~~~") (Some Tildes) None
+    × (Parts other_space_before (ticks 3) (0x0B ∷ bytes "```") None (Some Ticks)
+    × (Parts backtick_in_info None (bytes "```a`") (Some Ticks) None
+    × (Parts shorter_closer (ticks 4) (bytes "```") None (Some Ticks)
+    × (Parts text_after_closer (ticks 3) (bytes "```a") None (Some Ticks)
+    × Parts text_after_closer (ticks 3) (bytes "```" ++ (0x0B ∷ [])) None (Some Ticks)))))))
 
 -- and in the scan a closer of the other kind
 abbrev pub OtherKindParts : Type 0

@@ -1,23 +1,23 @@
 -- Demand 1 of the four calls, proved: `specs/Demand1.antt` has what it says. Assumes nothing.
-use Rattle.std.specs.Prelude.{Result, Ok, Err}
+use Rattle.std.specs.Prelude.{Option, Some, None, Result, Ok, Err}
 use Prim.Native.Nat.{ℕ, ◌≤◌}
 use native.Mathlib.Omega.{arith}
 use mathlib.Core.Path.{◌≡◌, refl}
 use mathlib.Core.Bool.{Bool, true, false, cond, ◌&&◌, false≢true}
 use mathlib.Core.List.{List, [], ◌∷◌}
 use mathlib.Core.Logic.{◌⊎◌, inl, inr}
-use lib.Dec.{eqb, leb}
+use lib.Dec.{leb}
 use lib.ListN.{length, drop}
 use lib.Seq.{drop-append_seam}
-use borrow.Author.Tests.{eqb-false}
 use Rattle.answer.specs.Answer.{place, numbers}
 use Rattle.answer.specs.declared.Answer.{Answer}
 use Rattle.answer.specs.declared.Answer.TheVariants.{Accepted as AcceptedAs}
 use Rattle.answer.specs.declared.Refusal.{Refusal}
-use Rattle.answer.specs.declared.Refusal.TheVariants.{WideByte, TextLimit}
+use Rattle.answer.specs.declared.Refusal.TheVariants.{TextLimit}
 use Rattle.text.specs.Ascii.{wide_line}
+use Rattle.text.proofs.AsciiLaws.{wide_least}
 use Rattle.listing.specs.Listing.{listing}
-use Rattle.listing.specs.ScanCall.{answer_of as scanned, output_of}
+use Rattle.listing.specs.ScanCall.{unless_wide, answer_of as scanned, output_of}
 use Rattle.index.specs.Index.{records}
 use Rattle.fileset.proofs.PlaceLaws.{HeadPlaces}
 use Rattle.walk.specs.Outcome.{Outcome, text, noRegion, refusal}
@@ -148,22 +148,23 @@ module _ {out work answer out' work' : List ℕ} where
 
 -- a scan
 module _ (s : List ℕ) {out answer out' : List ℕ} where
-  scanned-answered : (b c : Bool) → eqb (wide_line 1 s) 0 ≡ b → let a : Result Answer Refusal = cond b (cond c (Ok (AcceptedAs (length (listing s)) 0)) (Err (TextLimit (place 0 0)))) (Err (WideByte (place 0 (wide_line 1 s)))) in
+  scanned-answered : (o : Option ℕ) (c : Bool) → wide_line 1 s ≡ o
+      → let a : Result Answer Refusal = unless_wide o (cond c (Ok (AcceptedAs (length (listing s)) 0)) (Err (TextLimit (place 0 0)))) in
       answer ≡ numbers a → out' ≡ output_of a s out → Answered scan_refusals 0 0 answer out out' × NothingFilled answer
   unfolding output_of
-  scanned-answered true true q e o = (
+  scanned-answered None true q e o = (
     accepted (rw e refl) (rw (e, o) (drop-append_seam (listing s) (drop (length (listing s)) out))),
     rw e record { absent = λ q. absurd (omega (arith, q.0)); limit = λ q. absurd (omega (arith, q.0)); none = λ q. refl },
   )
-  scanned-answered true false q e o = (refused (rw e refl) (rw e refl) (rw e (limit refl (omega arith, omega arith) (refl, refl))) o, rw e record { absent = λ q. refl; limit = λ q. refl; none = λ q. absurd (omega (arith, q)) })
-  scanned-answered false c q e o = (
-    refused (rw e refl) (rw e refl) (rw e (in-text refl (omega arith, omega arith) (omega (arith, eqb-false (wide_line 1 s) 0 q)) (refl, refl))) o,
+  scanned-answered None false q e o = (refused (rw e refl) (rw e refl) (rw e (limit refl (omega arith, omega arith) (refl, refl))) o, rw e record { absent = λ q. refl; limit = λ q. refl; none = λ q. absurd (omega (arith, q)) })
+  scanned-answered (Some line) c q e o = (
+    refused (rw e refl) (rw e refl) (rw e (in-text refl (omega arith, omega arith) (wide_least 1 s line q) (refl, refl))) o,
     rw e record { absent = λ q. refl; limit = λ q. absurd (omega (arith, q.1)); none = λ q. absurd (omega (arith, q)) },
   )
 
 scan_call : (s out answer out' : List ℕ) → ScanCall s out answer out' → Answered scan_refusals 0 0 answer out out' × NothingFilled answer
 unfolding scanned
-scan_call s out answer out' g = scanned-answered s (eqb (wide_line 1 s) 0) (leb (length (listing s)) (length out)) refl g.numbers g.output
+scan_call s out answer out' g = scanned-answered s (wide_line 1 s) (leb (length (listing s)) (length out)) refl g.numbers g.output
 
 pub demand_1 : Demand1
 demand_1 = record {

@@ -1,19 +1,18 @@
 -- Laws of earlier members: a search through them. Assumes nothing.
 use Rattle.std.specs.Prelude.{Some, None}
-use Prim.Native.Nat.{ℕ, ◌+◌, ◌-◌, ◌≤◌, ◌<◌}
-use native.Mathlib.Nat.{sub-zero}
-use mathlib.Core.Path.{◌≡◌, sym, ap, ◌∙◌}
+use Rattle.std.proofs.lemmas.List.{at_drop_more, at_drop_all}
+use Prim.Native.Nat.{ℕ, ◌+◌, ◌≤◌, ◌<◌}
+use mathlib.Core.Path.{◌≡◌, refl, sym, ◌∙◌}
 use mathlib.Core.Bool.{true, false}
 use mathlib.Core.List.{List, ◌∷◌}
-use lib.ListN.{length}
+use lib.ListN.{length, drop, get_or}
 use Rattle.answer.specs.Answer.{place}
 use Rattle.text.specs.Pattern.{equals}
 use Rattle.put.specs.Put.{source_text}
 use Rattle.member.specs.Member.{Prepared}
 use Rattle.member.specs.Lines.{kept_lines}
-use Rattle.members.specs.Members.{member_at, name_of, text_source, prepared_in, prepared_from, Stands, AllStand}
+use Rattle.members.specs.Members.{name_of, text_source, prepared_in, all_prepared}
 use Rattle.members.specs.declared.Member.{Member}
-use Rattle.members.proofs.MembersLaws.{prepared_at, prepared_end}
 use Rattle.earlier.specs.Earlier.{line_of, earlier}
 
 -- a member of the same name, one without the anchor, and one with it
@@ -31,34 +30,34 @@ module _ (name a : List ℕ) (q : Prepared) (qs : List Prepared) where
   earlier_with e n z = rw (e, z)
 
 -- the members before member q have not the anchor
-pub record Searched (index contents work set a : List ℕ) (i q : ℕ) : Type 0 where
-  pub same : earlier (name_of index (member_at set i)) a (prepared_from index contents work set 0 i)
-      ≡ earlier (name_of index (member_at set i)) a (prepared_from index contents work set q (i - q))
+pub record Searched (index contents work : List ℕ) (ms : List Member) (name a : List ℕ) (q : ℕ) : Type 0 where
+  pub same : earlier name a (all_prepared index contents work ms) ≡ earlier name a (all_prepared index contents work (drop q ms))
 
-module _ {index contents work set a : List ℕ} {i q : ℕ} (s : Searched index contents work set a i q) where
-  pub search_end : i ≤ q → None ≡ earlier (name_of index (member_at set i)) a (prepared_from index contents work set 0 i)
+pub search_start : (index contents work : List ℕ) (ms : List Member) (name a : List ℕ) → Searched index contents work ms name a 0
+search_start index contents work ms name a = record { same = refl }
+
+module _ {index contents work : List ℕ} {ms : List Member} {name a : List ℕ} {q : ℕ} (s : Searched index contents work ms name a q) where
+  pub search_end : length ms ≤ q → None ≡ earlier name a (all_prepared index contents work ms)
   unfolding earlier
-  search_end h = sym (s.same ∙ ap (earlier (name_of index (member_at set i)) a) (prepared_end index contents work set q i h))
+  search_end h = sym (s.same ∙ at_drop_all (λ l. earlier name a (all_prepared index contents work l)) ms q h)
 
   -- member q is one of the same name, one without the anchor, or one with it
-  module _ (h : q < i) {mine m : Member} (at_i : mine ≡ member_at set i) (at-q : m ≡ member_at set q) where
-    turn : earlier (name_of index (member_at set i)) a (prepared_from index contents work set 0 i)
-        ≡ earlier (name_of index (member_at set i)) a (prepared_in index contents work (member_at set q) ∷ prepared_from index contents work set (q + 1) (i - (q + 1)))
-    turn = s.same ∙ ap (earlier (name_of index (member_at set i)) a) (prepared_at index contents work set q i h)
+  module _ (h : q < length ms) (d : Member) where
+    abbrev member : Member
+    member = get_or ms q d
 
-    pub search_own : equals (name_of index mine) (name_of index m) ≡ true → Searched index contents work set a i (q + 1)
-    search_own e = record {
-      same = turn ∙ earlier-own (name_of index (member_at set i)) a (prepared_in index contents work (member_at set q)) _ (rw (at_i, at-q) at e);
-    }
+    turn : earlier name a (all_prepared index contents work ms) ≡ earlier name a (prepared_in index contents work member ∷ all_prepared index contents work (drop (q + 1) ms))
+    turn = s.same ∙ at_drop_more (λ l. earlier name a (all_prepared index contents work l)) ms q d h
 
-    module _ (differs : equals (name_of index mine) (name_of index m) ≡ false) where
-      pub search_without : line_of a 1 (kept_lines (source_text (text_source m) contents work)) ≡ None → Searched index contents work set a i (q + 1)
-      search_without e = record {
-        same = turn ∙ earlier_without (name_of index (member_at set i)) a (prepared_in index contents work (member_at set q)) _ (rw (at_i, at-q) at differs) (rw at-q at e);
-      }
+    pub search_own : equals name (name_of index member) ≡ true → Searched index contents work ms name a (q + 1)
+    search_own e = record { same = turn ∙ earlier-own name a (prepared_in index contents work member) _ e }
 
-      pub search_with : {n : ℕ} → line_of a 1 (kept_lines (source_text (text_source m) contents work)) ≡ Some n
-          → Some (place m.file n) ≡ earlier (name_of index (member_at set i)) a (prepared_from index contents work set 0 i)
-      search_with {n} e =
-          ap (λ (y : Member). Some (place y.file n)) at-q
-          ∙ sym (turn ∙ earlier_with (name_of index (member_at set i)) a (prepared_in index contents work (member_at set q)) _ (rw (at_i, at-q) at differs) n (rw at-q at e))
+    module _ (differs : equals name (name_of index member) ≡ false) where
+      pub search_without : line_of a 1 (kept_lines (source_text (text_source member) contents work)) ≡ None → Searched index contents work ms name a (q + 1)
+      search_without e = record { same = turn ∙ earlier_without name a (prepared_in index contents work member) _ differs e }
+
+      pub search_with : {n : ℕ} → line_of a 1 (kept_lines (source_text (text_source member) contents work)) ≡ Some n
+          → Some (place member.file n) ≡ earlier name a (all_prepared index contents work ms)
+      search_with {n} e = sym (turn ∙ earlier_with name a (prepared_in index contents work member) _ differs n e)
+
+pub ruleset searching = (search_start, search_end, search_own, search_without, search_with)

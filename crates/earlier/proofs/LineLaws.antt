@@ -75,3 +75,5 @@ module _ (source : Source) (contents work : List ℕ) (p q : ℕ) (forward : sou
 
   pub part-text : (x : Source) → x ≡ part_of source p q → source_text x contents work ≡ part p q (source_text source contents work)
   part-text x e = rw e (source-part source contents work p q part-fits)
+
+pub ruleset lines = (first_in, first-left, line-none, line_hit, line_miss)

@@ -16,8 +16,7 @@ fn line_after(s: &[u8], at: usize) -> usize
     requires { at < length s.now }
     ensures { (result ≡ line_after at s.now) × ((at < result) × (result ≤ length s.now)) }
 {
-    let l = lines::line(s, at, at);
-    l.next
+    lines::line(s, at, at).next
 }
 
 // Copies two parts of a buffer down to an earlier place, one behind the other, and answers the place after them.
@@ -38,35 +37,24 @@ pub fn drop_markers(work: &mut [u8], n: usize) -> usize
     let mut at = 0;
     let mut c = Cursor { at: 0, line: 0 };
     // Bytes from the cursor on are as they were; those before `at` are the lines so far.
-    loop {
-        let from = c.at;
-        let r = region::next_region(&work[..n], c);
-        match r {
-            Some((g, _)) => {
-                let opener = g.opener;
-                let closer = g.closer;
-                let start = line_after(&work[..n], opener.at);
-                let next = line_after(&work[..n], closer.at);
-                at = copy_both(
-                    work,
-                    Part {
-                        start: from,
-                        end: opener.at,
-                    },
-                    Part {
-                        start,
-                        end: closer.at,
-                    },
-                    at,
-                );
-                c = Cursor {
-                    at: next,
-                    line: closer.line,
-                };
-            }
-            None => {
-                return buffer::copy_down(work, from, n, at);
-            }
-        }
+    while let Some((region, _)) = region::next_region(&work[..n], c) {
+        let opener = region.opener;
+        let closer = region.closer;
+        let start = line_after(&work[..n], opener.at);
+        let next = line_after(&work[..n], closer.at);
+        let before = Part {
+            start: c.at,
+            end: opener.at,
+        };
+        let within = Part {
+            start,
+            end: closer.at,
+        };
+        at = copy_both(work, before, within, at);
+        c = Cursor {
+            at: next,
+            line: closer.line,
+        };
     }
+    buffer::copy_down(work, c.at, n, at)
 }

@@ -1,4 +1,5 @@
 -- Laws of lines that neither change nor have a link, put as a block. Assumes nothing.
+use Rattle.std.specs.Prelude.{Option, Some, None}
 use Prim.Native.Nat.{ℕ, zero, suc, ◌+◌, ◌-◌, ◌≤◌, ◌<◌}
 use native.Mathlib.Omega.{arith}
 use mathlib.Core.Path.{◌≡◌, refl, sym, ap, ◌∙◌}
@@ -14,7 +15,6 @@ use Rattle.text.specs.Lines.{LF}
 use Rattle.text.proofs.PartLaws.{part_join}
 use Rattle.anchor.proofs.AnchorLaws.{part-cons}
 use Rattle.fence.specs.declared.Fence.{Fence}
-use Rattle.fence.specs.declared.Fence.TheVariants.{Outside, Ticks, Tildes}
 use Rattle.heading.specs.Walk.{still_kind}
 use Rattle.member.specs.Lines.{left_of, CursorIn}
 use Rattle.outline.specs.Seen.{titled_by}
@@ -43,15 +43,13 @@ part_feed : (s : List ℕ) (a b e : ℕ) → a ≤ b → b < e → e ≤ length 
 part_feed s a b e h k l q = ap (λ (u : List ℕ). part a b s ++ u) (sym (part-cons s b e k l ∙ ap (λ (x : ℕ). x ∷ part (b + 1) e s) q)) ∙ part_join s a b e h (omega arith)
 
 -- such a line is put as it stands, and is no title
-still-line : (f : List ℕ → List ℕ) (z : ℤ) (titled : Bool) (g : Fence) (l : List ℕ) → Unlinked l → new_line f z titled (record { kind = still_kind g; bytes = l }) ≡ l
-still-line f z titled Outside l u = u f
-still-line f z titled Ticks l u = refl
-still-line f z titled Tildes l u = refl
+still-line : (f : List ℕ → List ℕ) (z : ℤ) (titled : Bool) (g : Option Fence) (l : List ℕ) → Unlinked l → new_line f z titled (record { kind = still_kind g; bytes = l }) ≡ l
+still-line f z titled None l u = u f
+still-line f z titled (Some g) l u = refl
 
-still_untitled : (titled : Bool) (g : Fence) → titled_by titled (still_kind g) ≡ titled
-still_untitled titled Outside = refl
-still_untitled titled Ticks = refl
-still_untitled titled Tildes = refl
+still_untitled : (titled : Bool) (g : Option Fence) → titled_by titled (still_kind g) ≡ titled
+still_untitled titled None = refl
+still_untitled titled (Some g) = refl
 
 -- the text left from cursor c on is the block up to cursor d, and the text left from there on
 module _ (f : List ℕ → List ℕ) (z : ℤ) (s : List ℕ) (titled : Bool) (c : LineCursor) where

@@ -1,61 +1,45 @@
 #![tactic(auto)]
 
 // A member's lines put behind the text so far: headings moved but for the title, links outside fences rewritten.
-ghost use Rattle.std.specs.Prelude.{◌≤◌, length};
-ghost use Rattle.std.specs.Int.Signed.{mag};
+ghost use Rattle.std.specs.Prelude.{◌≡◌, ◌≤◌};
 ghost use Rattle.link.specs.Target.{rewrite_target};
-ghost use Rattle.put.specs.Put.{source_text, Able, Wrote};
-ghost use Rattle.members.specs.Members.{AllStand};
-ghost use Rattle.target.specs.Titles.{titles_in};
+ghost use Rattle.put.specs.Running.{Reads, Ran, text_of};
+ghost use Rattle.target.specs.Titles.{titles_of, Stand};
 ghost use Rattle.emission.specs.Emission.{emitted_text};
 
 use member::lines;
-use put::{Room, Source};
+use member::lines::KeptLine;
+use members::Assembly;
+use put::Source;
+use put::running::RunningText;
 
-// The lines that a member keeps of a source, its file being in a directory. Those that neither change nor have a link are put as a block.
+// The lines that a member keeps of a source, its file being in a directory. Those that neither change nor have a link are put as a block. None: they would go over the limit.
+#[tactic(auto, using(crate::proofs::PuttingLaws::putting))]
 pub fn put_lines(
-    index: &[u8],
-    contents: &[u8],
-    url: &[u8],
-    set: &[usize; 704],
-    count: usize,
+    assembly: Assembly,
     source: Source,
     dir: &[u8],
     shift: i32,
-    room: Room,
-    work: &mut [u8],
-) -> Option<usize>
-    requires { Able source room contents.now work.old × (AllStand index.now (length contents.now) room.limit (length work.old) set.now count × (mag shift ≤ 7)) }
-    ensures { Wrote room (emitted_text (rewrite_target (titles_in index.now contents.now work.old set.now count) url.now dir.now) shift (source_text source contents.now work.old)) work.old work.new result }
+    running: &mut RunningText,
+) -> Option<()>
+    requires able { Reads running.old source }
+    requires stand { Stand running.old assembly }
+    ensures same_reference { running.new.work.ghost_name ≡ running.old.work.ghost_name }
+    ensures ran { Ran (emitted_text (rewrite_target (titles_of running.old assembly.entry) assembly.entry.url.now dir.now) shift (text_of running.old source)) running.old running.new result }
 {
-    let limit = room.limit;
-    let mut at = room.at;
     let mut cursor = lines::first();
     let mut titled = false;
+    // A `loop`: a block is put before each line and behind the last one too, which a `while let` would write down twice.
     loop {
-        let passed = lines::pass(source.bytes(contents, work), cursor, 0, true);
+        let passed = lines::pass(running.bytes(source), cursor, 0, true);
         let next = passed.behind;
-        at = emitted::put_block(contents, source, cursor, next, Room { at, limit }, work)?;
-        let Some(line) = lines::next_line(source.bytes(contents, work), next) else {
-            return Some(at);
+        emitted::put_block(source, cursor, next, running)?;
+        let Some(line) = lines::next_line(running.bytes(source), next) else {
+            return Some(());
         };
-        let moved = outline::moved_kind(titled, line.kind);
-        at = emitted::put_next(
-            index,
-            contents,
-            url,
-            set,
-            count,
-            source,
-            moved,
-            line.start,
-            line.end,
-            next.line,
-            shift,
-            dir,
-            Room { at, limit },
-            work,
-        )?;
+        let kind = outline::moved_kind(titled, line.kind);
+        let moved = KeptLine { kind, ..line };
+        emitted::put_next(assembly, source, moved, next.line, shift, dir, running)?;
         cursor = line.behind;
         titled = outline::titled_by(titled, line.kind);
     }

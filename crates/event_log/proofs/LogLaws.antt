@@ -1,11 +1,11 @@
 -- Laws of `specs/Log.antt`: a word writes the row of its event, and a whole log has the rows of all that was noted. Assumes nothing.
 use Rattle.std.specs.Prelude.{Option, Some, None}
-use Prim.Native.Nat.{ℕ, ◌+◌, ◌≤◌, ◌<◌, ◌/◌, ◌%◌}
+use Prim.Native.Nat.{ℕ, ◌+◌, ◌≤◌, ◌<◌}
 use native.Mathlib.Numerals.{add-one}
 use native.Mathlib.Omega.{arith}
-use borrow.Author.Tests.{eqb-true, ltb-true}
-use mathlib.Core.Path.{◌≡◌, refl, ap, ◌∙◌}
-use mathlib.Core.Bool.{Bool, true, false, cond, ◌&&◌, false≢true}
+use borrow.Author.Tests.{eqb-true, ltb-true, not-true}
+use mathlib.Core.Path.{◌≡◌, refl, sym, ap, ◌∙◌}
+use mathlib.Core.Bool.{Bool, true, false, cond, not, ◌&&◌, false≢true}
 use mathlib.Core.List.{List, [], ◌∷◌, map, map-append}
 use lib.ListN.{length, take, set, length-set}
 use lib.Seq.{take-suc-set}
@@ -13,98 +13,70 @@ use lib.Dec.{eqb, ltb}
 use Rattle.text.proofs.PatternLaws.{and_left, and_right}
 use Rattle.rows.specs.Row.{row}
 use Rattle.rows.specs.Sheet.{Sheet, write, written}
-use Rattle.event_log.specs.Log.{word, region_kind, span_at, region_at, unpacked, span_word, region_word, holds_span, holds_region, holds_problem, packed, Log, events, added, note}
-use Rattle.scan.specs.declared.event.Span.{Span}
-use Rattle.scan.specs.declared.event.Region.{Region}
+use Rattle.event_log.specs.Log.{unpacked, event_word, shown, same_part, same_start, same_event, packed, Log, events, added, note}
+use Rattle.text.specs.declared.part.Part.{Part}
+use Rattle.marker.specs.Problems.{number_of, of_number}
+use Rattle.marker.specs.declared.problem.Problem.{Problem}
+use Rattle.marker.proofs.ProblemLaws.{numbered}
+use Rattle.scan.specs.declared.event.LineStart.{LineStart}
 use Rattle.scan.specs.declared.event.Event.{Event}
 use Rattle.scan.specs.declared.event.Event.TheVariants.{OfSpan, OfRegion, OfProblem}
 use Rattle.rows.proofs.SheetLaws.{written-append}
 
--- a word that holds an event gives back its row
-span_row : (w : ℕ) (x : Span) (t : Sheet) → holds_span w x ≡ true → write (unpacked w) t ≡ write (OfSpan x) t
-unfolding holds_span unpacked write row
-span_row w x t h =
-    let k = and_left (eqb (w % 4) 0) _ h in
-    let r = and_right (eqb (w % 4) 0) _ h in
-    let l = and_left (eqb (span_at w).line x.line) _ r in
-    let q = and_right (eqb (span_at w).line x.line) _ r in
-    let p = and_left (eqb (span_at w).spec.start x.spec.start && eqb (span_at w).spec.end x.spec.end) _ q in
-    let v = and_right (eqb (span_at w).spec.start x.spec.start && eqb (span_at w).spec.end x.spec.end) _ q in
+-- equal parts, starts and events are the same
+same-part : (p q : Part) → same_part p q ≡ true → p ≡ q
+same-part p q h = rw (eqb-true p.start q.start (and_left _ (eqb p.end q.end) h), eqb-true p.end q.end (and_right (eqb p.start q.start) _ h))
+
+same-start : (p q : LineStart) → same_start p q ≡ true → p ≡ q
+same-start p q h = rw (eqb-true p.line q.line (and_left _ (eqb p.at q.at) h), eqb-true p.at q.at (and_right (eqb p.line q.line) _ h))
+
+same-bool : (a b : Bool) → cond a b (not b) ≡ true → a ≡ b
+same-bool true b h = sym h
+same-bool false b h = sym (not-true b h)
+
+same-problem : (k j : Problem) → eqb (number_of k) (number_of j) ≡ true → k ≡ j
+same-problem k j h = sym (numbered k) ∙ ap of_number (eqb-true (number_of k) (number_of j) h) ∙ numbered j
+
+same-event : (e f : Event) → same_event e f ≡ true → e ≡ f
+same-event (OfSpan x) (OfSpan y) h =
+    let r = and_right (eqb x.line y.line) _ h in
     rw (
-      k,
-      eqb-true (span_at w).line x.line l,
-      eqb-true (span_at w).spec.start x.spec.start (and_left _ (eqb (span_at w).spec.end x.spec.end) p),
-      eqb-true (span_at w).spec.end x.spec.end (and_right (eqb (span_at w).spec.start x.spec.start) _ p),
-      eqb-true (span_at w).text.start x.text.start (and_left _ (eqb (span_at w).text.end x.text.end) v),
-      eqb-true (span_at w).text.end x.text.end (and_right (eqb (span_at w).text.start x.text.start) _ v),
+      eqb-true x.line y.line (and_left _ (same_part x.spec y.spec && same_part x.text y.text) h),
+      same-part x.spec y.spec (and_left _ (same_part x.text y.text) r),
+      same-part x.text y.text (and_right (same_part x.spec y.spec) _ r),
     )
-
-region_peer : (w : ℕ) → (region_at w).peer ≡ eqb (w % 4) 2
-unfolding region_at
-region_peer w = refl
-
-region_row : (w : ℕ) (g : Region) (t : Sheet) → holds_region w g ≡ true → write (unpacked w) t ≡ write (OfRegion g) t
-unfolding holds_region unpacked write row
-region_row w g t h = go g.peer refl
-  where
-    tail : ((eqb (region_at w).opener.line g.opener.line && eqb (region_at w).closer.line g.closer.line)
-        && (eqb (region_at w).path.start g.path.start && eqb (region_at w).path.end g.path.end)) ≡ true
-    tail = and_right (eqb (w % 4) (region_kind g.peer)) _ h
-
-    lines : (eqb (region_at w).opener.line g.opener.line && eqb (region_at w).closer.line g.closer.line) ≡ true
-    lines = and_left _ _ tail
-
-    path : (eqb (region_at w).path.start g.path.start && eqb (region_at w).path.end g.path.end) ≡ true
-    path = and_right (eqb (region_at w).opener.line g.opener.line && eqb (region_at w).closer.line g.closer.line) _ tail
-
-    opener : (region_at w).opener.line ≡ g.opener.line
-    opener = eqb-true _ _ (and_left _ (eqb (region_at w).closer.line g.closer.line) lines)
-
-    closer : (region_at w).closer.line ≡ g.closer.line
-    closer = eqb-true _ _ (and_right (eqb (region_at w).opener.line g.opener.line) _ lines)
-
-    start : (region_at w).path.start ≡ g.path.start
-    start = eqb-true _ _ (and_left _ (eqb (region_at w).path.end g.path.end) path)
-
-    end : (region_at w).path.end ≡ g.path.end
-    end = eqb-true _ _ (and_right (eqb (region_at w).path.start g.path.start) _ path)
-
-    kind : (p : Bool) → g.peer ≡ p → w % 4 ≡ region_kind p
-    kind p e = eqb-true (w % 4) (region_kind g.peer) (and_left _ _ h) ∙ ap region_kind e
-
-    go : (p : Bool) → g.peer ≡ p → write (unpacked w) t ≡ write (OfRegion g) t
-    go true e = rw (kind true e, region_peer w, kind true e, opener, closer, start, end, e)
-    go false e = rw (kind false e, region_peer w, kind false e, opener, closer, start, end, e)
-
-problem_row : (w n k : ℕ) (t : Sheet) → holds_problem w n k ≡ true → write (unpacked w) t ≡ write (OfProblem n k) t
-unfolding holds_problem unpacked
-problem_row w n k t h =
-    let kind : w % 4 ≡ 3 = eqb-true (w % 4) 3 (and_left _ _ h) in
-    let r = and_right (eqb (w % 4) 3) _ h in
+same-event (OfRegion g) (OfRegion k) h =
+    let r = and_right (same_start g.opener k.opener) _ h in
+    let s = and_right (same_start g.closer k.closer) _ r in
     rw (
-      kind,
-      eqb-true (w / 70368744177664) n (and_left _ (eqb (w / 4 % 2048) k) r),
-      eqb-true (w / 4 % 2048) k (and_right (eqb (w / 70368744177664) n) _ r),
+      same-start g.opener k.opener (and_left _ (same_start g.closer k.closer && (same_part g.path k.path && cond g.peer k.peer (not k.peer))) h),
+      same-start g.closer k.closer (and_left _ (same_part g.path k.path && cond g.peer k.peer (not k.peer)) r),
+      same-part g.path k.path (and_left _ (cond g.peer k.peer (not k.peer)) s),
+      same-bool g.peer k.peer (and_right (same_part g.path k.path) _ s),
     )
+same-event (OfProblem n k) (OfProblem m j) h =
+    rw (
+      eqb-true n m (and_left _ (eqb (number_of k) (number_of j)) h),
+      same-problem k j (and_right (eqb n m) _ h),
+    )
+same-event e f h = absurd (false≢true h)
 
--- so does the word that an event is packed into
+-- the row is of what it shows
+shown-row : (e : Event) (t : Sheet) → write (shown e) t ≡ write e t
+unfolding write row
+shown-row (OfRegion g) t = refl
+shown-row e t = refl
+
+-- the word that an event is packed into gives back its row
 word_row : (e : Event) (w : ℕ) (t : Sheet) → packed e ≡ Some w → write (unpacked w) t ≡ write e t
 unfolding packed
-word_row (OfSpan x) w t = go (holds_span (span_word x) x) refl
+word_row e w t = go (same_event (unpacked (event_word e)) (shown e)) refl
   where
-    go : (b : Bool) → holds_span (span_word x) x ≡ b → cond b (Some (span_word x)) None ≡ Some w → write (unpacked w) t ≡ write (OfSpan x) t
-    go true h e = let q : span_word x ≡ w = cc in rw q at (span_row (span_word x) x t h)
-    go false h e = let z : ◌≡◌ {A = ℕ} 0 1 = cc in absurd (omega arith)
-word_row (OfRegion g) w t = go (holds_region (region_word g) g) refl
-  where
-    go : (b : Bool) → holds_region (region_word g) g ≡ b → cond b (Some (region_word g)) None ≡ Some w → write (unpacked w) t ≡ write (OfRegion g) t
-    go true h e = let q : region_word g ≡ w = cc in rw q at (region_row (region_word g) g t h)
-    go false h e = let z : ◌≡◌ {A = ℕ} 0 1 = cc in absurd (omega arith)
-word_row (OfProblem n k) w t = go (holds_problem (word 3 n 0 0 k) n k) refl
-  where
-    go : (b : Bool) → holds_problem (word 3 n 0 0 k) n k ≡ b → cond b (Some (word 3 n 0 0 k)) None ≡ Some w → write (unpacked w) t ≡ write (OfProblem n k) t
-    go true h e = let q : word 3 n 0 0 k ≡ w = cc in rw q at (problem_row (word 3 n 0 0 k) n k t h)
-    go false h e = let z : ◌≡◌ {A = ℕ} 0 1 = cc in absurd (omega arith)
+    go : (b : Bool) → same_event (unpacked (event_word e)) (shown e) ≡ b → cond b (Some (event_word e)) None ≡ Some w → write (unpacked w) t ≡ write e t
+    go true h e' =
+        let q : event_word e ≡ w = cc in
+        rw (← q, same-event (unpacked (event_word e)) (shown e) h) (shown-row e t)
+    go false h e' = let z : ◌≡◌ {A = ℕ} 0 1 = cc in absurd (omega arith)
 
 -- a word behind those of a log
 events_more : (b : List ℕ) (n w : ℕ) (t : Sheet) → n < length b → written (map unpacked (take (n + 1) (set b n w))) t ≡ write (unpacked w) (written (map unpacked (take n b)) t)

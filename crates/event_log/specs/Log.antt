@@ -1,7 +1,9 @@
 -- Events as words in a log. Nothing here is document 01's: inner functions promise it, and the laws of `proofs/` say that a whole log has what the rows show.
-use Rattle.std.specs.Prelude.{ℕ, ◌+◌, ◌*◌, ◌-◌, ◌/◌, ◌%◌, Bool, true, false, cond, ◌&&◌, List, map, length, take, set, eqb, ltb, Option, Some, None}
+use Rattle.std.specs.Prelude.{ℕ, ◌+◌, ◌*◌, ◌-◌, ◌/◌, ◌%◌, Bool, true, false, cond, not, ◌&&◌, List, map, length, take, set, eqb, ltb, Option, Some, None}
 use Rattle.event_log.specs.declared.word.Kept.{Kept}
-use Rattle.scan.specs.Scan.{span_of}
+use Rattle.marker.specs.Problems.{number_of, of_number}
+use Rattle.text.specs.declared.part.Part.{Part}
+use Rattle.scan.specs.declared.event.LineStart.{LineStart}
 use Rattle.scan.specs.declared.event.Span.{Span}
 use Rattle.scan.specs.declared.event.Region.{Region}
 use Rattle.scan.specs.declared.event.Event.{Event}
@@ -12,9 +14,11 @@ unfoldable pub word : ℕ → ℕ → ℕ → ℕ → ℕ → ℕ
 word kind line place a b = (((line % 262144 * 4194304 + place % 4194304) * 2048 + a % 2048) * 2048 + b % 2048) * 4 + kind % 4
 
 unfoldable pub span_at : ℕ → Span
-span_at w =
-    span_of (w / 70368744177664) (w / 16777216 % 4194304) (w / 16777216 % 4194304 + w / 8192 % 2048) (w / 16777216 % 4194304 + w / 8192 % 2048 + 4)
-    (w / 16777216 % 4194304 + w / 8192 % 2048 + 4 + w / 4 % 2048)
+span_at w = record {
+  line = w / 70368744177664;
+  spec = record { start = w / 16777216 % 4194304; end = w / 16777216 % 4194304 + w / 8192 % 2048 };
+  text = record { start = w / 16777216 % 4194304 + w / 8192 % 2048 + 4; end = w / 16777216 % 4194304 + w / 8192 % 2048 + 4 + w / 4 % 2048 };
+}
 
 unfoldable pub region_at : ℕ → Region
 region_at w = record {
@@ -27,7 +31,7 @@ region_at w = record {
 unfoldable pub unpacked : ℕ → Event
 unpacked w =
     cond (eqb (w % 4) 0) (OfSpan (span_at w))
-    (cond (eqb (w % 4) 3) (OfProblem (w / 70368744177664) (w / 4 % 2048))
+    (cond (eqb (w % 4) 3) (OfProblem (w / 70368744177664) (of_number (w / 4 % 2048)))
     (OfRegion (region_at w)))
 
 abbrev pub region_kind : Bool → ℕ
@@ -44,26 +48,30 @@ span_word x = word 0 x.line x.spec.start (gap x.spec.start x.spec.end) (gap x.te
 unfoldable pub region_word : Region → ℕ
 region_word g = word (region_kind g.peer) g.opener.line g.path.start (gap g.path.start g.path.end) (gap g.opener.line g.closer.line)
 
-unfoldable pub holds_span : ℕ → Span → Bool
-holds_span w x =
-    eqb (w % 4) 0
-    && (eqb (span_at w).line x.line
-    && ((eqb (span_at w).spec.start x.spec.start && eqb (span_at w).spec.end x.spec.end)
-    && (eqb (span_at w).text.start x.text.start && eqb (span_at w).text.end x.text.end)))
+abbrev pub event_word : Event → ℕ
+event_word (OfSpan x) = span_word x
+event_word (OfRegion g) = region_word g
+event_word (OfProblem n k) = word 3 n 0 0 (number_of k)
 
-unfoldable pub holds_region : ℕ → Region → Bool
-holds_region w g =
-    eqb (w % 4) (region_kind g.peer)
-    && ((eqb (region_at w).opener.line g.opener.line && eqb (region_at w).closer.line g.closer.line)
-    && (eqb (region_at w).path.start g.path.start && eqb (region_at w).path.end g.path.end))
+-- an event as its row shows it: the lines of a region's markers, and not where they start
+abbrev pub shown : Event → Event
+shown (OfRegion g) = OfRegion (record { opener = record { line = g.opener.line; at = 0 }; closer = record { line = g.closer.line; at = 0 }; path = g.path; peer = g.peer })
+shown e = e
 
-unfoldable pub holds_problem : ℕ → ℕ → ℕ → Bool
-holds_problem w n k = eqb (w % 4) 3 && (eqb (w / 70368744177664) n && eqb (w / 4 % 2048) k)
+abbrev pub same_part : Part → Part → Bool
+same_part p q = eqb p.start q.start && eqb p.end q.end
+
+abbrev pub same_start : LineStart → LineStart → Bool
+same_start p q = eqb p.line q.line && eqb p.at q.at
+
+abbrev pub same_event : Event → Event → Bool
+same_event (OfSpan x) (OfSpan y) = eqb x.line y.line && (same_part x.spec y.spec && same_part x.text y.text)
+same_event (OfRegion g) (OfRegion h) = same_start g.opener h.opener && (same_start g.closer h.closer && (same_part g.path h.path && cond g.peer h.peer (not h.peer)))
+same_event (OfProblem n k) (OfProblem m j) = eqb n m && eqb (number_of k) (number_of j)
+same_event e f = false
 
 unfoldable pub packed : Event → Option ℕ
-packed (OfSpan x) = cond (holds_span (span_word x) x) (Some (span_word x)) None
-packed (OfRegion g) = cond (holds_region (region_word g) g) (Some (region_word g)) None
-packed (OfProblem n k) = cond (holds_problem (word 3 n 0 0 k) n k) (Some (word 3 n 0 0 k)) None
+packed e = cond (same_event (unpacked (event_word e)) (shown e)) (Some (event_word e)) None
 
 -- a log: its buffer, how many words it has, and whether every event so far is among them
 pub record Log : Type 0 where

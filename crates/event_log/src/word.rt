@@ -1,7 +1,8 @@
 // Events as words in a log. A word has a kind, a line, a place and two short numbers; an event that it does not hold is not kept.
 ghost use Rattle.std.specs.Prelude.{◌≡◌, ◌<◌, length};
-ghost use Rattle.event_log.specs.Log.{word as word_of, gap as gap_of, region_kind, span_at, region_at, span_word, region_word, holds_span, holds_region, holds_problem, packed, unpacked, log_of, added, note as noted};
+ghost use Rattle.event_log.specs.Log.{word as word_of, gap as gap_of, region_kind, span_at, region_at, span_word, region_word, event_word, shown, packed, unpacked, log_of, added, note as noted};
 
+use marker::problem::Problem;
 use scan::event::{Event, LineStart, Region, Span};
 use text::part::Part;
 
@@ -13,6 +14,7 @@ pub struct Kept {
 }
 
 // The word of a kind (2 bits), a line (18), a place (22) and two short numbers (11 each).
+#[tactic(auto, unfolding(crate::specs::Log::word))]
 fn word(kind: usize, line: usize, place: usize, a: usize, b: usize) -> usize
     ensures { result ≡ word_of kind line place a b }
 {
@@ -21,6 +23,7 @@ fn word(kind: usize, line: usize, place: usize, a: usize, b: usize) -> usize
 }
 
 // What b is more than a, up to multiples of 2048.
+#[tactic(auto, unfolding(crate::specs::Log::gap))]
 fn gap(a: usize, b: usize) -> usize
     ensures { result ≡ gap_of a b }
 {
@@ -33,6 +36,7 @@ fn region_kind(peer: bool) -> usize
     if peer { 2 } else { 1 }
 }
 
+#[tactic(auto, unfolding(crate::specs::Log::span_word))]
 fn span_word(x: Span) -> usize
     ensures { result ≡ span_word x }
 {
@@ -47,6 +51,7 @@ fn span_word(x: Span) -> usize
     )
 }
 
+#[tactic(auto, unfolding(crate::specs::Log::region_word))]
 fn region_word(g: Region) -> usize
     ensures { result ≡ region_word g }
 {
@@ -62,6 +67,7 @@ fn region_word(g: Region) -> usize
     )
 }
 
+#[tactic(auto, unfolding(crate::specs::Log::span_at))]
 fn span_at(w: usize) -> Span
     ensures { result ≡ span_at w }
 {
@@ -77,7 +83,7 @@ fn span_at(w: usize) -> Span
     }
 }
 
-// A row shows the lines of a region's markers, and not where they start.
+#[tactic(auto, unfolding(crate::specs::Log::region_at))]
 fn region_at(w: usize) -> Region
     ensures { result ≡ region_at w }
 {
@@ -97,85 +103,58 @@ fn region_at(w: usize) -> Region
     }
 }
 
-// Whether a word gives a span back.
-fn holds_span(w: usize, x: Span) -> bool
-    ensures { result ≡ holds_span w x }
-{
-    let y = span_at(w);
-    let a = x.spec;
-    let b = y.spec;
-    let c = x.text;
-    let d = y.text;
-    (w % 4 == 0)
-        & ((y.line == x.line)
-            & (((b.start == a.start) & (b.end == a.end))
-                & ((d.start == c.start) & (d.end == c.end))))
-}
-
-// Whether a word gives back what the row of a region shows.
-fn holds_region(w: usize, g: Region) -> bool
-    ensures { result ≡ holds_region w g }
-{
-    let h = region_at(w);
-    let a = g.opener;
-    let b = h.opener;
-    let c = g.closer;
-    let d = h.closer;
-    let p = g.path;
-    let q = h.path;
-    (w % 4 == region_kind(g.peer))
-        & (((b.line == a.line) & (d.line == c.line)) & ((q.start == p.start) & (q.end == p.end)))
-}
-
-fn holds_problem(w: usize, line: usize, number: usize) -> bool
-    ensures { result ≡ holds_problem w line number }
-{
-    (w % 4 == 3) & ((w / 70368744177664 == line) & (w / 4 % 2048 == number))
-}
-
-// The word of an event, if it gives back what the event's row shows.
-pub fn pack(event: Event) -> Option<usize>
-    ensures { result ≡ packed event }
-{
-    match event {
-        Event::OfSpan(x) => {
-            let w = span_word(x);
-            if holds_span(w, x) {
-                return Some(w);
-            }
-            None
-        }
-        Event::OfRegion(g) => {
-            let w = region_word(g);
-            if holds_region(w, g) {
-                return Some(w);
-            }
-            None
-        }
-        Event::OfProblem { line, number } => {
-            let w = word(3, line, 0, 0, number);
-            if holds_problem(w, line, number) {
-                return Some(w);
-            }
-            None
-        }
-    }
-}
-
 // The event of a word.
+#[tactic(auto, unfolding(crate::specs::Log::unpacked))]
 pub fn unpack(w: usize) -> Event
     ensures { result ≡ unpacked w }
 {
-    if w % 4 == 0 {
-        return Event::OfSpan(span_at(w));
-    }
-    if w % 4 == 3 {
-        return Event::OfProblem {
+    match w % 4 {
+        0 => Event::OfSpan(span_at(w)),
+        3 => Event::OfProblem {
             line: w / 70368744177664,
-            number: w / 4 % 2048,
-        };
+            problem: Problem::of_number(w / 4 % 2048),
+        },
+        _ => Event::OfRegion(region_at(w)),
     }
-    Event::OfRegion(region_at(w))
+}
+
+// An event as its row shows it: the lines of a region's markers, and not where they start.
+fn shown(event: Event) -> Event
+    ensures { result ≡ shown event }
+{
+    match event {
+        Event::OfRegion(region) => Event::OfRegion(Region {
+            opener: LineStart {
+                at: 0,
+                ..region.opener
+            },
+            closer: LineStart {
+                at: 0,
+                ..region.closer
+            },
+            ..region
+        }),
+        _ => event,
+    }
+}
+
+fn event_word(event: Event) -> usize
+    ensures { result ≡ event_word event }
+{
+    match event {
+        Event::OfSpan(x) => span_word(x),
+        Event::OfRegion(g) => region_word(g),
+        Event::OfProblem { line, problem } => word(3, line, 0, 0, problem.number()),
+    }
+}
+
+// The word of an event, if it gives back what the event's row shows.
+#[tactic(auto, unfolding(crate::specs::Log::packed))]
+pub fn pack(event: Event) -> Option<usize>
+    ensures { result ≡ packed event }
+{
+    let w = event_word(event);
+    (unpack(w) == shown(event)).then_some(w)
 }
 
 // Adds a word to a log that has room for it.
@@ -199,17 +178,15 @@ fn add(log: &mut [usize], words: usize, packed: Option<usize>) -> Kept
 }
 
 // Keeps an event, if all before it were kept and the log has room for it.
+#[tactic(auto, unfolding(crate::specs::Log::note))]
 pub fn note(log: &mut [usize], kept: Kept, event: Event) -> Kept
     ensures { log_of result log.new ≡ noted event (log_of kept log.old) }
 {
-    let words = kept.words;
-    if kept.whole {
-        if words < log.len() {
-            return add(log, words, pack(event));
-        }
+    if kept.whole && kept.words < log.len() {
+        return add(log, kept.words, pack(event));
     }
     Kept {
-        words,
         whole: false,
+        ..kept
     }
 }

@@ -1,21 +1,16 @@
 -- Document 01, "Marker scan" and "Headings and levels": a line that opens or closes a fence.
-use Rattle.std.specs.Prelude.{ℕ, Bool, true, false, cond, ◌||◌, List}
+use Rattle.std.specs.Prelude.{ℕ, Bool, cond, ◌||◌, List, Option, Some, None}
 use Rattle.text.specs.Pattern.{bytes, starts_with}
 use Rattle.text.specs.Space.{trim_start}
 use Rattle.fence.specs.declared.Fence.{Fence}
-use Rattle.fence.specs.declared.Fence.TheVariants.{Outside, Ticks, Tildes}
+use Rattle.fence.specs.declared.Fence.TheVariants.{Ticks, Tildes}
 
 -- "a fence opener": the three bytes of a line's trimmed start
-unfoldable pub opener : List ℕ → Fence
+unfoldable pub opener : List ℕ → Option Fence
 opener l =
-    cond (starts_with (bytes "```") (trim_start l)) Ticks
-    (cond (starts_with (bytes "~~~") (trim_start l)) Tildes
-    Outside)
-
-abbrev pub opens : Fence → Bool
-opens Outside = false
-opens Ticks = true
-opens Tildes = true
+    cond (starts_with (bytes "```") (trim_start l)) (Some Ticks)
+    (cond (starts_with (bytes "~~~") (trim_start l)) (Some Tildes)
+    None)
 
 -- "A line whose trimmed start is ` ``` ` or `~~~` toggles the fence."
 unfoldable pub is_fence : List ℕ → Bool

@@ -2,38 +2,30 @@
 
 // Fences of document 01: the test of a line that the marker scan and the heading walk share.
 ghost use Rattle.std.specs.Prelude.{◌≡◌};
-ghost use Rattle.fence.specs.Fences.{opener, opens as opens_fence, is_fence};
+ghost use Rattle.fence.specs.Fences.{opener, is_fence};
 
 use text::{pattern, space};
 
-// The fence that is open, by its three bytes.
-#[derive(Clone, Copy)]
+// A fence, by its three bytes.
+#[derive(Clone, Copy, PartialEq, Eq)]
 pub enum Fence {
-    Outside,
     Ticks,
     Tildes,
 }
 
-// The fence that a line opens.
+// The fence that a line opens, where it opens one.
 #[tactic(auto, using(text::proofs::BytesLaws::rest), unfolding(crate::specs::Fences::opener, text::specs::Space::trim_start))]
-pub fn opening_fence(line: &[u8]) -> Fence
+pub fn opening_fence(line: &[u8]) -> Option<Fence>
     ensures { result ≡ opener line.now }
 {
     let text = &line[space::lead(line)..];
     if pattern::starts_with(text, b"```") {
-        Fence::Ticks
+        Some(Fence::Ticks)
     } else if pattern::starts_with(text, b"~~~") {
-        Fence::Tildes
+        Some(Fence::Tildes)
     } else {
-        Fence::Outside
+        None
     }
-}
-
-// Whether a line that has this opener opens a fence.
-pub fn opens(fence: Fence) -> bool
-    ensures { result ≡ opens_fence fence }
-{
-    !matches!(fence, Fence::Outside)
 }
 
 // Whether a line toggles the fence of the marker scan.
@@ -41,5 +33,5 @@ pub fn opens(fence: Fence) -> bool
 pub fn is_fence(line: &[u8]) -> bool
     ensures { result ≡ is_fence line.now }
 {
-    opens(opening_fence(line))
+    opening_fence(line).is_some()
 }

@@ -1,15 +1,13 @@
 -- Laws of `specs/Members.antt`: how many names a list has, a turn of the walk that finds their records and
 -- what the form of a list tells. Assumes nothing.
 use Rattle.std.specs.Prelude.{Some, None}
-use Prim.Native.Nat.{ℕ, ◌+◌, ◌-◌, ◌≤◌, ◌<◌}
-use native.Mathlib.Nat.{add-zero}
-use native.Mathlib.Numerals.{add-one}
+use Prim.Native.Nat.{ℕ, suc, ◌+◌, ◌-◌, ◌≤◌}
 use native.Mathlib.Omega.{arith}
-use mathlib.Core.Path.{◌≡◌, refl, ◌∙◌}
+use mathlib.Core.Path.{◌≡◌, refl, ap, ◌∙◌}
 use mathlib.Core.Bool.{Bool, true, false, cond, ◌||◌}
 use mathlib.Core.List.{List, [], ◌∷◌, ◌++◌, append_assoc, append-nil}
-use lib.ListN.{length, take, set}
-use lib.Seq.{length-take-le, take-suc-set}
+use lib.ListN.{length}
+use lib.Seq.{length-take-le}
 use lib.Dec.{eqb, leb}
 use borrow.Author.Tests.{leb-true}
 use Rattle.text.specs.Bytes.{is, count}
@@ -30,24 +28,29 @@ module _ (rs : List Record) {l : List ℕ} {ls ns : List (List ℕ)} (e : ns ≡
   unfolding absent_from
   absent-not n k f = rw (e, f)
 
-  pub absent-here : (n : ℕ) → find_record l rs ≡ None → n ≡ absent_from n rs ns
+  pub absent-here : (n : ℕ) → find_record l rs ≡ None → Some n ≡ absent_from n rs ns
   unfolding absent_from
   absent-here n f = rw (e, f)
 
-  pub members_more : (m : List ℕ) (n k : ℕ) → n < length m → find_record l rs ≡ Some k
-      → take (n + 1) (set m n k) ++ members_from rs ls ≡ take n m ++ members_from rs ns
+  pub members_more : (m : List ℕ) (k : ℕ) → find_record l rs ≡ Some k → (m ++ (k ∷ [])) ++ members_from rs ls ≡ m ++ members_from rs ns
   unfolding members_from
-  members_more m n k h f = rw (e, f, add-one, take-suc-set m n k h) (append_assoc (take n m) (k ∷ []) (members_from rs ls))
+  members_more m k f = rw (e, f) (append_assoc m (k ∷ []) (members_from rs ls))
 
 -- no name is left
 module _ (rs : List Record) (n : ℕ) {ns : List (List ℕ)} (e : ns ≡ []) where
-  pub absent_none : 0 ≡ absent_from n rs ns
+  pub absent_none : None ≡ absent_from n rs ns
   unfolding absent_from
   absent_none = rw e
 
-  pub members-end : (m : List ℕ) → take (n + length ns) m ≡ take n m ++ members_from rs ns
+  pub members-end : (m : List ℕ) → m ≡ m ++ members_from rs ns
   unfolding members_from
-  members-end m = rw (e, add-zero, append-nil)
+  members-end m = rw (e, append-nil)
+
+-- a record for each name
+pub members-length : (rs : List Record) (ls : List (List ℕ)) → length (members_from rs ls) ≡ length ls
+unfolding members_from
+members-length rs [] = refl
+members-length rs (l ∷ ls) = ap suc (members-length rs ls)
 
 -- what an answer tells
 module _ (s : List ℕ) where

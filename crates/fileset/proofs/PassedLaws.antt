@@ -1,13 +1,13 @@
 -- What holds once nothing is refused before the walk. Assumes nothing.
-use Rattle.std.specs.Prelude.{Result, Ok, Err}
+use Rattle.std.specs.Prelude.{Option, Some, None, Result, Ok, Err}
 use Prim.Native.Nat.{ℕ, ◌+◌, ◌*◌, ◌≤◌}
 use native.Mathlib.Omega.{arith}
 use mathlib.Core.Path.{◌≡◌, refl}
-use mathlib.Core.Bool.{Bool, true, false, cond, not, ◌&&◌}
+use mathlib.Core.Bool.{Bool, true, false, not, ◌&&◌}
 use mathlib.Core.List.{List, []}
 use lib.ListN.{length}
-use lib.Dec.{eqb, leb, ltb}
-use borrow.Author.Tests.{eqb-true, leb-true, ltb-false}
+use lib.Dec.{leb, ltb}
+use borrow.Author.Tests.{leb-true, ltb-false}
 use Rattle.answer.specs.Answer.{place}
 use Rattle.answer.specs.declared.Refusal.{Refusal}
 use Rattle.answer.specs.declared.Refusal.TheVariants.{IndexLine, TooManyRecords, ListForm, Sizes, Absent}
@@ -67,14 +67,11 @@ book_fit index contents list url limit out work e =
     (order-second (refuse_if (not (is_list list)) ListForm) _ (order-second (head_checked index contents [] url) _ e)))
 
 -- every name of the list is a record's
-refuse_none : (n : ℕ) (f : ℕ → Refusal) → refuse_at n f ≡ Ok tt → n ≡ 0
-refuse_none n f e = go (eqb n 0) refl e
-  where
-    go : (b : Bool) → eqb n 0 ≡ b → ◌≡◌ {A = Result (Unit {0}) Refusal} (cond b (Ok tt) (Err (f n))) (Ok tt) → n ≡ 0
-    go true q p = eqb-true n 0 q
-    go false q p = let z : ◌≡◌ {A = ℕ} 0 1 = cc in absurd (omega arith)
+refuse_none : {A : Type 0} (o : Option A) (f : A → Refusal) → refuse_at o f ≡ Ok tt → o ≡ None
+refuse_none (Some a) f e = let z : ◌≡◌ {A = ℕ} 0 1 = cc in absurd (omega arith)
+refuse_none None f e = refl
 
-pub book-named : (index contents list url : List ℕ) (limit out work : ℕ) → book_checked index contents list url limit out work ≡ Ok tt → absent_from 1 (records index) (names list) ≡ 0
+pub book-named : (index contents list url : List ℕ) (limit out work : ℕ) → book_checked index contents list url limit out work ≡ Ok tt → absent_from 1 (records index) (names list) ≡ None
 unfolding book_checked
 book-named index contents list url limit out work e =
     refuse_none _ (λ n. Absent (place 0 n)) (order-second (refuse_sizes (length (records index)) (length (names list)) limit out work) _

@@ -1,16 +1,14 @@
 -- Document 01, "Records": the refusals before the walk. "Order: 1 to 8, each over the whole input before the next; then 14 over the list, at the list's line".
-use Rattle.std.specs.Prelude.{ℕ, ◌+◌, ◌*◌, ◌≤◌, Bool, cond, not, ◌&&◌, ◌≡◌, List, [], length, take, eqb, leb, ltb, Result, Ok, Err}
+use Rattle.std.specs.Prelude.{ℕ, ◌+◌, ◌*◌, ◌≡◌, Bool, cond, not, ◌&&◌, List, [], length, leb, ltb, Option, Some, None, Result, Ok, Err}
 use Rattle.answer.specs.Answer.{place}
-use Rattle.answer.specs.declared.Place.{Place}
 use Rattle.answer.specs.declared.Refusal.{Refusal}
 use Rattle.answer.specs.declared.Refusal.TheVariants.{IndexLine, TooManyRecords, PastContents, NameTwice, WideByte, NameForm, ListForm, Sizes, Absent}
 use Rattle.text.specs.Ascii.{wide_line}
-use Rattle.text.specs.Bytes.{is, count}
-use Rattle.text.specs.Lines.{LF}
 use Rattle.index.specs.Index.{is_name, ill_formed, Record, records}
 use Rattle.index.specs.Records.{past_from, twice_from, wide_from}
-use Rattle.index.specs.Rows.{AreRows, AreWithin}
-use Rattle.fileset.specs.Members.{names, is_list, absent_from, members_from}
+use Rattle.index.specs.Rows.{records_of, AreShort}
+use Rattle.index.specs.declared.file_set.FileSet.{FileSet}
+use Rattle.fileset.specs.Members.{names, is_list, absent_from}
 
 -- "each .. before the next": one check, and where it passes the next
 abbrev pub in_order : Result (Unit {0}) Refusal → Result (Unit {0}) Refusal → Result (Unit {0}) Refusal
@@ -21,9 +19,10 @@ in_order (Err r) c = Err r
 abbrev pub refuse_if : Bool → Refusal → Result (Unit {0}) Refusal
 refuse_if b r = cond b (Err r) (Ok tt)
 
--- a refusal at a line, 0 being none
-abbrev pub refuse_at : ℕ → (ℕ → Refusal) → Result (Unit {0}) Refusal
-refuse_at n f = cond (eqb n 0) (Ok tt) (Err (f n))
+-- a refusal at what was found, if anything was
+abbrev pub refuse_at : {A : Type 0} → Option A → (A → Refusal) → Result (Unit {0}) Refusal
+refuse_at (Some a) f = Err (f a)
+refuse_at None f = Ok tt
 
 -- 2 to 4
 abbrev pub records_checked : ℕ → List Record → Result (Unit {0}) Refusal
@@ -36,10 +35,6 @@ records_checked room rs =
 unfoldable pub index_checked : List ℕ → List ℕ → Result (Unit {0}) Refusal
 index_checked index contents = in_order (refuse_at (ill_formed index) IndexLine) (records_checked (length contents) (records index))
 
--- 5, at the place found
-abbrev pub refuse_wide : Place → Result (Unit {0}) Refusal
-refuse_wide p = cond (eqb p.line 0) (Ok tt) (Err (WideByte p))
-
 -- 8 "L outside its range or a buffer short": "Output at least L bytes; work at least (records + list lines + 2) × L", for n records and m list lines
 abbrev pub are_sizes : ℕ → ℕ → ℕ → ℕ → ℕ → Bool
 are_sizes n m limit out work = (leb 1 limit && leb limit 1048576) && (leb limit out && leb ((n + m + 2) * limit) work)
@@ -51,8 +46,8 @@ refuse_sizes n m limit out work = refuse_if (not (are_sizes n m limit out work))
 abbrev pub head_checked : List ℕ → List ℕ → List ℕ → List ℕ → Result (Unit {0}) Refusal
 head_checked index contents text name =
     in_order (index_checked index contents)
-    (in_order (refuse_wide (place 0 (wide_line 1 text)))
-    (in_order (refuse_wide (wide_from 1 contents (records index)))
+    (in_order (refuse_at (wide_line 1 text) (λ n. WideByte (place 0 n)))
+    (in_order (refuse_at (wide_from 1 contents (records index)) WideByte)
     (refuse_if (not (is_name name)) NameForm)))
 
 -- 7, 8 and 14 over the list, whose names are looked for among the records rs
@@ -72,30 +67,18 @@ unfoldable pub book_checked : List ℕ → List ℕ → List ℕ → List ℕ �
 book_checked index contents list url limit out work =
     in_order (head_checked index contents [] url) (list_checked (records index) list limit out work)
 
--- For the functions: the checks of the index with the number of records where they pass
-abbrev pub counted : Result (Unit {0}) Refusal → ℕ → Result ℕ Refusal
-counted (Ok tt) n = Ok n
-counted (Err r) n = Err r
+-- for the functions: the check of an answer, and the file set that it gives once nothing is refused
+abbrev pub check_of : {A : Type 0} → Result A Refusal → Result (Unit {0}) Refusal
+check_of (Ok a) = Ok tt
+check_of (Err r) = Err r
 
--- once they pass, each LF ends a record, the rows tell of the records, no part ends past the contents, and the members are those of the list
-pub record Passes (index contents rows : List ℕ) : Type 0 where
-  pub lines : count (is LF) index ≡ length (records index)
-  pub few : length (records index) ≤ 64
-  pub told : AreRows index rows
-  pub within : AreWithin (length contents) rows (length (records index))
+-- a file set of an index and contents, whose rows tell of the index's records
+pub record IsRead (index contents : List ℕ) (set : FileSet) : Type 0 where
+  pub index_is : set.index.now ≡ index
+  pub contents_is : set.contents.now ≡ contents
+  pub same : records_of index set.rows.now ≡ records index
+  pub short : AreShort set.rows.now
 
-abbrev pub HeadWithin : ℕ → List ℕ → Result ℕ Refusal → Type 0
-HeadWithin room rows (Ok n) = (n ≤ 64) × AreWithin room rows n
-HeadWithin room rows (Err r) = Unit {0}
-
-abbrev pub HeadRead : List ℕ → List ℕ → List ℕ → Result ℕ Refusal → Type 0
-HeadRead index contents rows (Ok n) = (n ≡ length (records index)) × Passes index contents rows
-HeadRead index contents rows (Err r) = Unit {0}
-
-abbrev pub Read : List ℕ → List ℕ → List ℕ → Result (Unit {0}) Refusal → Type 0
-Read index contents rows (Ok tt) = Passes index contents rows
-Read index contents rows (Err r) = Unit {0}
-
-abbrev pub Listed : List Record → List ℕ → List ℕ → Result (Unit {0}) Refusal → Type 0
-Listed rs list members (Ok tt) = (length (names list) ≤ 64) × (take (length (names list)) members ≡ members_from rs (names list))
-Listed rs list members (Err r) = Unit {0}
+abbrev pub Read : List ℕ → List ℕ → Result FileSet Refusal → Type 0
+Read index contents (Ok set) = IsRead index contents set
+Read index contents (Err r) = Unit {0}

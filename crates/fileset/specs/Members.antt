@@ -1,7 +1,7 @@
 -- Document 01, "Records": "Member list: one name a line, LF after each, 0 to 64 lines; a name may come twice."
-use Rattle.std.specs.Prelude.{ℕ, ◌+◌, ◌-◌, Bool, cond, ◌&&◌, ◌||◌, List, [], ◌∷◌, length, take, eqb, leb, Option, Some, None}
+use Rattle.std.specs.Prelude.{ℕ, ◌+◌, ◌-◌, Bool, cond, ◌&&◌, ◌||◌, List, [], ◌∷◌, length, take, eqb, leb, Option, Some, None, is_some}
 use Rattle.text.specs.Lines.{LF, pieces}
-use Rattle.text.specs.Pattern.{ends_with, is_at}
+use Rattle.text.specs.Pattern.{ends_with}
 use Rattle.index.specs.Index.{Record, find_record}
 
 -- the names: what stands before each LF
@@ -16,10 +16,10 @@ is_list list = (eqb (length list) 0 || ends_with (LF ∷ []) list) && leb (lengt
 unfoldable pub list_lines : List ℕ → Option ℕ
 list_lines list = cond (is_list list) (Some (length (names list))) None
 
--- the first line whose name no record has, or 0; the lines count from n
-unfoldable pub absent_from : ℕ → List Record → List (List ℕ) → ℕ
-absent_from n rs [] = 0
-absent_from n rs (l ∷ ls) = cond (is_at (find_record l rs)) (absent_from (n + 1) rs ls) n
+-- the first line whose name no record has; the lines count from n
+unfoldable pub absent_from : ℕ → List Record → List (List ℕ) → Option ℕ
+absent_from n rs [] = None
+absent_from n rs (l ∷ ls) = cond (is_some (find_record l rs)) (absent_from (n + 1) rs ls) (Some n)
 
 -- the members: for each name its record, counted from 0
 abbrev pub record_found : Option ℕ → ℕ

@@ -1,15 +1,19 @@
 // The refusals before the walk, in their order.
-ghost use Rattle.std.specs.Prelude.{◌≡◌, ◌≤◌, length};
-ghost use Rattle.text.specs.Bytes.{is, count as count_of};
-ghost use Rattle.text.specs.Lines.{LF};
+ghost use Rattle.std.specs.Prelude.{◌≡◌, ◌≤◌, length, OnOk};
 ghost use Rattle.index.specs.Index.{records};
-ghost use Rattle.index.specs.Rows.{records_in, AreNamed, AreRows};
-ghost use Rattle.fileset.specs.Check.{records_checked, index_checked, head_checked, refuse_sizes, list_checked, fill_checked, book_checked, counted, HeadWithin, HeadRead, Read, Listed};
+ghost use Rattle.index.specs.Rows.{AreWithin};
+ghost use Rattle.index.specs.FileSets.{records_in};
+ghost use Rattle.fileset.specs.Check.{records_checked, index_checked, head_checked, refuse_sizes, list_checked, fill_checked, book_checked, check_of, Read};
+ghost use Rattle.fileset.specs.Members.{members as members_of};
 
 use crate::members;
+use crate::members::Records;
 use answer::{Place, Refusal};
+use index::file_set::FileSet;
+use index::records::Index;
+use index::rows::Rows;
 use index::{name, records, rows};
-use text::{ascii, bytes};
+use text::ascii;
 
 // The text limit, and how many bytes output and work buffer have.
 #[derive(Clone, Copy)]
@@ -19,73 +23,67 @@ pub struct Sizes {
     pub work: usize,
 }
 
-// How many records an index has once it is checked.
-pub fn record_count(index: &[u8]) -> usize
-    ensures { result ≡ count_of (is LF) index.now }
+// Refusals 3 and 4, where 2 is not given.
+#[tactic(auto, using(crate::proofs::CheckLaws::checking))]
+fn check_records(index: Index, room: usize) -> Result<(), Refusal>
+    ensures value { result ≡ records_checked room (records_in index.entry) }
+    ensures within { OnOk result (AreWithin room index.entry.rows.now) }
 {
-    bytes::count_byte(index, b'\n')
+    if let Some(line) = records::past_line(index.rows, room) {
+        return Err(Refusal::PastContents(line));
+    }
+    if let Some(line) = index.twice_line() {
+        return Err(Refusal::NameTwice(line));
+    }
+    Ok(())
 }
 
-// Refusals 2 to 4.
-#[tactic(auto, using(index::proofs::RecordLaws::are_within))]
-fn check_records(
-    index: &[u8],
-    rows: &[usize; 256],
-    count: usize,
-    room: usize,
-) -> Result<usize, Refusal>
-    requires { (count ≡ length (records index.now)) × (count ≤ 64 → AreRows index.now rows.now) }
-    ensures value { result ≡ counted (records_checked room (records index.now)) count }
-    ensures head_within { HeadWithin room rows.now result }
+// Refusals 1 to 4, or the file set. The index is read into the rows.
+#[tactic(auto, using(crate::proofs::CheckLaws::reading), unfolding(crate::specs::Check::index_checked))]
+fn check_index<'a>(
+    index: &'a [u8],
+    contents: &'a [u8],
+    rows: &'a mut Rows,
+) -> Result<FileSet<'a>, Refusal>
+    ensures value { check_of result ≡ index_checked index.now contents.now }
+    ensures read { Read index.now contents.now result }
 {
+    let count = rows::read(index, rows).map_err(|line| Refusal::IndexLine(line))?;
     if 64 < count {
         return Err(Refusal::TooManyRecords);
     }
-    let past = records::past_line(rows, count, room);
-    if past != 0 {
-        return Err(Refusal::PastContents(past));
-    }
-    let twice = records::twice_line(index, rows, count);
-    if twice != 0 {
-        return Err(Refusal::NameTwice(twice));
-    }
-    Ok(count)
-}
-
-// Refusals 1 to 4. The index is read into the rows.
-#[tactic(auto, using(crate::proofs::CheckLaws::reading), unfolding(crate::specs::Check::index_checked))]
-fn check_index(index: &[u8], contents: &[u8], rows: &mut [usize; 256]) -> Result<usize, Refusal>
-    ensures value { result ≡ counted (index_checked index.now contents.now) (length (records index.now)) }
-    ensures head_read { HeadRead index.now contents.now rows.new result }
-{
-    let count = rows::read(index, rows).map_err(|line| Refusal::IndexLine(line))?;
-    check_records(index, rows, count, contents.len())
+    let rows = rows.as_slice();
+    let read = Index { text: index, rows };
+    check_records(read, contents.len())?;
+    Ok(FileSet {
+        index,
+        contents,
+        rows,
+    })
 }
 
 // Refusals 1 to 6, for a host's text and name; an assembly or a book has its URL in the name's place, and an empty text.
-fn check_head(
-    index: &[u8],
-    contents: &[u8],
+fn check_head<'a>(
+    index: &'a [u8],
+    contents: &'a [u8],
     text: &[u8],
     name: &[u8],
-    rows: &mut [usize; 256],
-) -> Result<usize, Refusal>
-    ensures value { result ≡ counted (head_checked index.now contents.now text.now name.now) (length (records index.now)) }
-    ensures head_read { HeadRead index.now contents.now rows.new result }
+    rows: &'a mut Rows,
+) -> Result<FileSet<'a>, Refusal>
+    ensures value { check_of result ≡ head_checked index.now contents.now text.now name.now }
+    ensures read { Read index.now contents.now result }
 {
-    let count = check_index(index, contents, rows)?;
-    let line = ascii::wide_line(text);
-    if line != 0 {
+    let files = check_index(index, contents, rows)?;
+    if let Some(line) = ascii::wide_line(text) {
         return Err(Refusal::WideByte(Place { file: 0, line }));
     }
-    let place = records::wide_place(contents, rows, count);
-    if place.line != 0 {
+    if let Some(place) = records::wide_place(contents, files.rows) {
         return Err(Refusal::WideByte(place));
     }
     if !name::is_name(name) {
         return Err(Refusal::NameForm);
     }
-    Ok(count)
+    Ok(files)
 }
 
 // Refusal 8: the limit is out of its range, or the output has no room for it, or the work buffer none for a text a record and a list line and two more.
@@ -105,59 +103,56 @@ fn check_sizes(count: usize, lines: usize, sizes: Sizes) -> Result<(), Refusal>
 
 // Refusals 7, 8 and 14. The record of each list line goes to the members.
 #[tactic(auto, using(crate::proofs::CheckLaws::listing))]
-fn check_list(
-    list: &[u8],
-    index: &[u8],
-    rows: &[usize; 256],
-    count: usize,
-    sizes: Sizes,
-    members: &mut [usize; 64],
-) -> Result<(), Refusal>
-    requires { (count ≤ 64) × AreNamed index.now rows.now count }
-    ensures value { result ≡ list_checked (records_in index.now rows.now 0 count) list.now sizes.limit sizes.output sizes.work }
-    ensures listed { Listed (records_in index.now rows.now 0 count) list.now members.new result }
+fn check_list(list: &[u8], index: Index, sizes: Sizes, members: &mut Records) -> Result<(), Refusal>
+    ensures value { result ≡ list_checked (records_in index.entry) list.now sizes.limit sizes.output sizes.work }
+    ensures listed { OnOk result (members.new.items ≡ members_of (records_in index.entry) list.now) }
 {
     let lines = members::list_lines(list).ok_or(Refusal::ListForm)?;
-    check_sizes(count, lines, sizes)?;
-    let line = members::read(list, index, rows, count, members);
-    if line != 0 {
+    check_sizes(index.rows.len(), lines, sizes)?;
+    if let Some(line) = members::read(list, index, members) {
         return Err(Refusal::Absent(Place { file: 0, line }));
     }
     Ok(())
 }
 
-// The refusals of a fill.
+// The refusals of a fill, or the file set.
 #[tactic(auto, using(crate::proofs::CheckLaws::heading), unfolding(crate::specs::Check::fill_checked))]
-pub fn check_fill(
-    index: &[u8],
-    contents: &[u8],
+pub fn check_fill<'a>(
+    index: &'a [u8],
+    contents: &'a [u8],
     name: &[u8],
     text: &[u8],
     sizes: Sizes,
-    rows: &mut [usize; 256],
-) -> Result<(), Refusal>
-    ensures value { result ≡ fill_checked index.now contents.now name.now text.now sizes.limit sizes.output sizes.work }
-    ensures read { Read index.now contents.now rows.new result }
+    rows: &'a mut Rows,
+) -> Result<FileSet<'a>, Refusal>
+    ensures value { check_of result ≡ fill_checked index.now contents.now name.now text.now sizes.limit sizes.output sizes.work }
+    ensures read { Read index.now contents.now result }
 {
-    let count = check_head(index, contents, text, name, rows)?;
-    check_sizes(count, 0, sizes)
+    let files = check_head(index, contents, text, name, rows)?;
+    check_sizes(files.rows.len(), 0, sizes)?;
+    Ok(files)
 }
 
-// The refusals of an assembly or a book.
+// The refusals of an assembly or a book, or the file set.
 #[tactic(auto, using(crate::proofs::CheckLaws::heading), unfolding(crate::specs::Check::book_checked))]
-pub fn check_book(
-    index: &[u8],
-    contents: &[u8],
+pub fn check_book<'a>(
+    index: &'a [u8],
+    contents: &'a [u8],
     list: &[u8],
     url: &[u8],
     sizes: Sizes,
-    rows: &mut [usize; 256],
-    members: &mut [usize; 64],
-) -> Result<(), Refusal>
-    ensures value { result ≡ book_checked index.now contents.now list.now url.now sizes.limit sizes.output sizes.work }
-    ensures read { Read index.now contents.now rows.new result }
-    ensures listed { Listed (records index.now) list.now members.new result }
+    rows: &'a mut Rows,
+    members: &mut Records,
+) -> Result<FileSet<'a>, Refusal>
+    ensures value { check_of result ≡ book_checked index.now contents.now list.now url.now sizes.limit sizes.output sizes.work }
+    ensures read { Read index.now contents.now result }
+    ensures listed { OnOk result (members.new.items ≡ members_of (records index.now) list.now) }
 {
-    let count = check_head(index, contents, b"", url, rows)?;
-    check_list(list, index, rows, count, sizes, members)
+    let files = check_head(index, contents, b"", url, rows)?;
+    let read = Index {
+        text: files.index,
+        rows: files.rows,
+    };
+    check_list(list, read, sizes, members)?;
+    Ok(files)
 }

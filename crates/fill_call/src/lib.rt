@@ -3,47 +3,43 @@
 // The call fill: the host handed in with its regions filled, in the output.
 ghost use Rattle.std.specs.Prelude.{◌≡◌, length};
 ghost use Rattle.book.specs.Calls.{fill_outcome, answer_of, output_after, work_after};
-ghost use Rattle.give.specs.Given.{read_answer, Fits};
+ghost use Rattle.filling.specs.Filling.{read_filled};
+ghost use Rattle.give.specs.Given.{Fits};
 
 use answer::{Answer, Refusal};
 use fileset::check;
 use fileset::check::Sizes;
-use opening::Filling;
+use index::rows::Rows;
+use opening::{Chain, Filling};
 
 // Checks the input, and fills the host at the front of the work buffer.
-fn run(
-    index: &[u8],
-    contents: &[u8],
-    name: &[u8],
+fn run<'a>(
+    index: &'a [u8],
+    contents: &'a [u8],
+    name: &'a [u8],
     text: &[u8],
     sizes: Sizes,
     allowance: usize,
     work: &mut [u8],
 ) -> Result<Answer, Refusal>
     requires { sizes.work ≡ length work.old }
-    ensures work_after { read_answer result work.new ≡ fill_outcome index.now contents.now name.now text.now sizes.limit allowance sizes.output sizes.work }
+    ensures work_after { read_filled result work.new ≡ fill_outcome index.now contents.now name.now text.now sizes.limit allowance sizes.output sizes.work }
     ensures fits { Fits result sizes.output sizes.work }
 {
-    let mut rows = [0usize; 256];
-    check::check_fill(index, contents, name, text, sizes, &mut rows)?;
+    let mut rows = Rows::new();
+    let files = check::check_fill(index, contents, name, text, sizes, &mut rows)?;
     let at = Filling {
         number: 0,
-        count: check::record_count(index),
         limit: sizes.limit,
         allowance,
         used: 0,
     };
-    fragment::fill_regions(
-        index,
-        &rows,
-        contents,
-        name,
-        [false; 64],
-        name,
-        text,
-        at,
-        work,
-    )
+    let chain = Chain {
+        files,
+        top: name,
+        marks: [false; 64],
+    };
+    fragment::fill_regions(chain, name, text, at, work)
 }
 
 // A fill of a host, by its name and text. The limit, the allowance and both buffers are the caller's.

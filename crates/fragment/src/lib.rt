@@ -1,124 +1,96 @@
 #![tactic(auto)]
 
-// Filling in the fragment regions of a file. `fill_regions` and `embed` call each other: the files on the chain are marked, and each level has its text at
+// Filling in the fragment regions of a file. `fill_regions` and `embed` call each other: the files on a chain are marked, and each level has its text at
 // the front of its buffer, up to the limit, and lends what lies past the limit to the next.
 ghost use Rattle.std.specs.Prelude.{◌≡◌, suc, ◌*◌, ◌<◌, ◌≤◌, length, take};
 ghost use Rattle.answer.specs.Answer.{place};
+ghost use Rattle.index.specs.FileSets.{files_of};
 ghost use Rattle.index.specs.Index.{file_of};
 ghost use Rattle.walk.specs.Steps.{judge};
 ghost use Rattle.embedding.specs.Embed.{embed_told};
-ghost use Rattle.chains.specs.Chains.{file_at, free, chain};
+ghost use Rattle.chains.specs.Chains.{file_at, free, chain as chain_of};
 ghost use Rattle.chains.specs.Fill.{walk, filled};
-ghost use Rattle.opening.specs.Opening.{files_in, Ready};
-ghost use Rattle.filling.specs.Filling.{read_filled, FilledWithin, embedded_by, chain_to, CanEmbed};
+ghost use Rattle.filling.specs.Filling.{read_filled, FilledWithin, read_text, TextWithin, embedded_by, chain_to, CanEmbed};
 
 use answer::{Answer, Place, Refusal};
-use filling::{NextFile, Spot};
-use index::rows;
+use filling::Filled;
 use insertion::Insertion;
-use opening::Filling;
-use taking::Stand;
+use opening::{Chain, Filling, Opened};
+use regions::host;
+use regions::host::Opening;
+use survey::Surveyed;
 
-// Takes a file in behind the running text: fills it past the limit, with its mark set for as long, and embeds what that gave.
+// Takes the file of a region in behind the running text: fills it past the limit, with its mark set for as long, and embeds what that gave.
 #[cycle(embed_fill_regions)]
 fn embed(
-    index: &[u8],
-    rows: &[usize; 256],
-    contents: &[u8],
-    top: &[u8],
-    marks: [bool; 64],
+    chain: Chain,
     host: &[u8],
-    file: usize,
+    region: Opening,
+    opened: Opened,
     at: Filling,
-    spot: Spot,
     work: &mut [u8],
-) -> Result<Answer, Refusal>
-    requires { Ready index.now rows.now (length contents.now) at.count × ((at.used < at.allowance) × CanEmbed marks at.count file spot.target spot.len at.limit (length work.old)) }
-    ensures work_after { read_filled result work.new ≡ embedded_by at.limit (place at.number spot.line) (take spot.len work.old)
-        (embed_told host.now (file_at (files_in index.now rows.now contents.now at.count) file).name spot.target
-        (file_at (files_in index.now rows.now contents.now at.count) file).number)
-        (judge at.allowance at.limit (suc at.used) (walk (chain_to (files_in index.now rows.now contents.now at.count) top.now marks file))) }
-    ensures filled_within { FilledWithin result at.limit }
+) -> Result<Filled, Refusal>
+    requires { (at.used < at.allowance) × CanEmbed chain.marks (length (files_of chain.files)) opened.file region.target opened.length at.limit (length work.old) }
+    ensures work_after { read_text result work.new ≡ embedded_by at.limit (place at.number region.line) (take opened.length work.old)
+        (embed_told host.now (file_at (files_of chain.entry.files) opened.file).name region.target (file_at (files_of chain.entry.files) opened.file).number)
+        (judge at.allowance at.limit (suc at.used) (walk (chain_to (files_of chain.entry.files) chain.entry.top.now chain.entry.marks opened.file))) }
+    ensures text_within { TextWithin result at.limit }
 {
-    let row = rows::row_at(rows, file);
-    let a = row.name;
-    let e = row.end;
-    let start = row.start;
-    let end = start + row.size;
+    let file = opened.file;
+    let name = chain.files.name(file);
+    let text = chain.files.text(file);
     let limit = at.limit;
-    let mut next = marks;
-    next[file] = true;
+    let mut longer = chain;
+    longer.marks[file] = true;
     let inner = Filling {
         number: file + 1,
-        count: at.count,
-        limit,
-        allowance: at.allowance,
         used: at.used + 1,
+        ..at
     };
-    let got = fill_regions(
-        index,
-        rows,
-        contents,
-        top,
-        next,
-        &index[a..e],
-        &contents[start..end],
-        inner,
-        &mut work[limit..],
-    );
+    let got = fill_regions(longer, name, text, inner, &mut work[limit..]);
     let to = Insertion {
         opener: Place {
             file: at.number,
-            line: spot.line,
+            line: region.line,
         },
-        target: spot.target,
+        target: region.target,
         number: file + 1,
         limit,
-        len: spot.len,
+        len: opened.length,
     };
-    taking::take_in(got, index, contents, row, host, at.used + 1, to, work)
+    taking::take_in(got, name, text, host, at.used + 1, to, work)
 }
 
-// Fills a file. The chain started with the file named top, and the marked files were taken in since.
+// Fills a file, the last of a chain.
 #[cycle(embed_fill_regions)]
 pub fn fill_regions(
-    index: &[u8],
-    rows: &[usize; 256],
-    contents: &[u8],
-    top: &[u8],
-    marks: [bool; 64],
+    chain: Chain,
     name: &[u8],
     s: &[u8],
     at: Filling,
     work: &mut [u8],
 ) -> Result<Answer, Refusal>
-    requires { Ready index.now rows.now (length contents.now) at.count × (suc (free (take at.count marks)) * at.limit ≤ length work.old) }
+    requires { suc (free (take (length (files_of chain.files)) chain.marks)) * at.limit ≤ length work.old }
     ensures work_after { read_filled result work.new ≡ filled at.allowance at.limit at.used
-        (chain (files_in index.now rows.now contents.now at.count) top.now marks (file_of at.number name.now s.now)) }
+        (chain_of (files_of chain.entry.files) chain.entry.top.now chain.entry.marks (file_of at.number name.now s.now)) }
     ensures filled_within { FilledWithin result at.limit }
 {
-    let mut stand = taking::first(s, at);
-    loop {
-        match stand {
-            Stand::On { c, len, used } => {
-                let here = Filling {
-                    number: at.number,
-                    count: at.count,
-                    limit: at.limit,
-                    allowance: at.allowance,
-                    used,
-                };
-                match filling::next_file(index, rows, top, marks, s, c, here, len, work) {
-                    NextFile::Into { file, spot, behind } => {
-                        let got = embed(
-                            index, rows, contents, top, marks, name, file, here, spot, work,
-                        );
-                        stand = taking::after(got, behind);
-                    }
-                    NextFile::Done(filled) => return filled,
-                }
-            }
-            Stand::Done(filled) => return filled,
-        }
+    let Surveyed::Regions = survey::survey(s, at.number)? else {
+        return Ok(Answer::NoRegion);
+    };
+    let mut cursor = host::start();
+    let mut text = Filled {
+        length: 0,
+        files: at.used,
+    };
+    while let Some((region, behind)) = host::next_host(s, cursor) {
+        let here = Filling {
+            used: text.files,
+            ..at
+        };
+        let opened = opening::open_region(chain, s, cursor.from, region, here, text.length, work)?;
+        text = embed(chain, name, region, opened, here, work)?;
+        cursor = behind;
     }
+    filling::put_last(s, cursor.from, at, text, work)
 }

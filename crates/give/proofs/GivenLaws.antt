@@ -10,16 +10,16 @@ use Rattle.answer.specs.declared.Answer.{Answer}
 use Rattle.answer.specs.declared.Refusal.{Refusal}
 use Rattle.answer.specs.declared.Answer.TheVariants.{Accepted, NoRegion}
 use Rattle.walk.specs.Outcome.{Outcome}
-use Rattle.assembly.specs.Parts.{read_assembled, AssembledWithin}
 use Rattle.book.specs.Calls.{answer_of, output_after, work_after}
-use Rattle.give.specs.Given.{assembled, read_answer, copied, Fits}
+use Rattle.filling.specs.Filling.{read_filled}
+use Rattle.give.specs.Given.{copied, Fits}
 
-answer_read : (a : Result Answer Refusal) (w : List ℕ) (out : ℕ) → Fits a out (length w) → a ≡ answer_of (read_answer a w)
+answer_read : (a : Result Answer Refusal) (w : List ℕ) (out : ℕ) → Fits a out (length w) → a ≡ answer_of (read_filled a w)
 answer_read (Ok (Accepted n f)) w out h = ap (λ (k : ℕ). Ok (Accepted k f)) (sym (length-take-le n w h.1))
 answer_read (Ok NoRegion) w out h = refl
 answer_read (Err x) w out h = refl
 
-output_read : (a : Result Answer Refusal) (w out : List ℕ) → Fits a (length out) (length w) → copied a w out ≡ output_after (read_answer a w) out
+output_read : (a : Result Answer Refusal) (w out : List ℕ) → Fits a (length out) (length w) → copied a w out ≡ output_after (read_filled a w) out
 output_read (Ok (Accepted n f)) w out h = ap (λ (k : ℕ). take n w ++ drop k out) (sym (length-take-le n w h.1))
 output_read (Ok NoRegion) w out h = refl
 output_read (Err x) w out h = refl
@@ -30,15 +30,7 @@ copied-front n w out h k =
     let e : 0 + length (take n w) ≡ n = omega (arith, length-take-le n w h) in
     sets-eq (take n w) out 0 (omega arith) ∙ ap (λ (m : ℕ). take n w ++ drop m out) e
 
--- an assembly's own answer, read, and the room that its text takes
-pub assembled_read : (files : ℕ) (r : Result ℕ Refusal) (w : List ℕ) → read_assembled files r w ≡ read_answer (assembled files r) w
-assembled_read files (Ok n) w = refl
-assembled_read files (Err x) w = refl
-
-pub assembled-fits : (files : ℕ) (r : Result ℕ Refusal) (limit : ℕ) → AssembledWithin r limit → Fits (assembled files r) limit limit
-assembled-fits files (Ok n) limit h = (h, h)
-assembled-fits files (Err x) limit h = tt
-
+-- in larger buffers
 pub fits_more : (a : Result Answer Refusal) (limit out work : ℕ) → limit ≤ out → limit ≤ work → Fits a limit limit → Fits a out work
 fits_more (Ok (Accepted n f)) limit out work h k l = (omega arith, omega arith)
 fits_more (Ok NoRegion) limit out work h k l = tt
@@ -49,7 +41,7 @@ module _ (a : Result Answer Refusal) (w v : List ℕ) (kept : length w ≡ lengt
   pub call_fits : (out : ℕ) → Fits a out (length v) → Fits a out (length w)
   call_fits out h = rw kept h
 
-  pub call_gives : {o : Outcome} (out out' work' : List ℕ) → read_answer a w ≡ o → Fits a (length out) (length v) → out' ≡ copied a w out → work' ≡ work_after w
+  pub call_gives : {o : Outcome} (out out' work' : List ℕ) → read_filled a w ≡ o → Fits a (length out) (length v) → out' ≡ copied a w out → work' ≡ work_after w
       → (a ≡ answer_of o) × ((out' ≡ output_after o out) × (work' ≡ work_after v))
   call_gives out out' work' e h f g =
       let k = call_fits (length out) h in (

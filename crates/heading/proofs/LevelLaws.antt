@@ -1,6 +1,5 @@
--- Laws of levels: the lesser of two levels; the shift, where what the machine computes is the sum in ℤ, since both are small; the bytes of a heading
--- line, written one after the other; and levels found along the walk, which are 1 to 6.
--- Assumes nothing.
+-- Laws of levels: what a heading moves to; the bytes of a heading line, written one after the other; and levels found along the walk, which are
+-- 1 to 6. Assumes nothing.
 use Rattle.std.specs.Prelude.{Option, Some, None}
 use Prim.Native.Nat.{ℕ, ◌+◌, ◌≤◌}
 use native.Mathlib.Numerals.{add-one}
@@ -14,10 +13,6 @@ use lib.IntN.{ℤ, pos, negsuc}
 use lib.ListN.{length, set, take, drop, replicate, length-replicate}
 use borrow.Rule.Slice.PartMut.{put_mid}
 use lib.Seq.{sets, sets-eq, drop-drop}
-use lib.Signed.{mag}
-use mir.Syntax.{w32}
-use mir.Val.{to_z, of_z}
-use mir.ValLaws.{to_z-of_z}
 use Rattle.buffer.proofs.BufferLaws.{sets_append}
 use Rattle.fence.specs.declared.Fence.{Fence}
 use Rattle.heading.specs.Walk.{step_kind, step_after, kinds_from}
@@ -26,10 +21,6 @@ use Rattle.heading.specs.declared.walk.LineKind.{LineKind}
 use Rattle.heading.specs.declared.walk.LineKind.TheVariants.{Quoted, Heading, Other}
 use Rattle.heading.specs.declared.walk.WalkState.{WalkState}
 use Rattle.heading.proofs.WalkLaws.{kind-within}
-
--- a shift that was handed on is the same number
-pub shift_kept : (z : ℤ) → mag z ≤ 7 → to_z w32 (of_z w32 z) ≡ z
-shift_kept z h = to_z-of_z w32 z (record { sfits = omega arith })
 
 -- a heading moves to a level of 1 to 6
 pub moved_level : (z : ℤ) (n : ℕ) → moved_to z ≡ Some n → (1 ≤ n) × (n ≤ 6)
@@ -71,7 +62,7 @@ level-shallower b Other h q = q
 level-shallower None (Heading n a e) h q = h
 level-shallower (Some m) (Heading n a e) h q = (omega arith, omega arith)
 
-pub level-step : (b : Option ℕ) (f : Fence) (c : Bool) (l : List ℕ) → IsLevel b → IsLevel (shallower b (step_kind f c l))
+pub level-step : (b : Option ℕ) (f : Option Fence) (c : Bool) (l : List ℕ) → IsLevel b → IsLevel (shallower b (step_kind f c l))
 level-step b f c l q = level-shallower b (step_kind f c l) (go (step_kind f c l) (kind-within f c l)) q
   where
     go : (k : LineKind) → ((n a e : ℕ) → k ≡ Heading n a e → ((1 ≤ n) × (n ≤ 6)) × ((a ≤ e) × (e ≤ length l))) → HasLevel k

@@ -1,6 +1,6 @@
 -- Lines that leave the heading walk as it is: blank lines, and lines that do not begin with a byte of `is_first`; and the walk over lines and lines after
 -- them. Assumes nothing.
-use Rattle.std.specs.Prelude.{Option}
+use Rattle.std.specs.Prelude.{Option, Some, None}
 use Prim.Native.Nat.{ℕ, zero, suc, ◌≤◌}
 use native.Mathlib.Omega.{arith}
 use mathlib.Core.Path.{◌≡◌, refl, ap, ◌∙◌}
@@ -19,7 +19,7 @@ use Rattle.fence.specs.Fences.{opener}
 use Rattle.heading.specs.Walk.{hashes, heading_of, closes, opens_comment, written_kind, comment_after, outside_kind, outside_after, step_kind, step_after, kinds_from, states_after, still_kind}
 use Rattle.heading.specs.Level.{shallower, shallowest_of, deeper}
 use Rattle.fence.specs.declared.Fence.{Fence}
-use Rattle.fence.specs.declared.Fence.TheVariants.{Outside, Ticks, Tildes}
+use Rattle.fence.specs.declared.Fence.TheVariants.{Ticks, Tildes}
 use Rattle.heading.specs.declared.walk.LineKind.{LineKind}
 use Rattle.heading.specs.declared.walk.LineKind.TheVariants.{Other}
 use Rattle.heading.specs.declared.walk.WalkState.{WalkState}
@@ -84,13 +84,12 @@ other_bare l e =
     }
 
 module _ (l : List ℕ) (h : Bare l) where
-  bare-opener : opener l ≡ Outside
+  bare-opener : opener l ≡ None
   unfolding opener
   bare-opener = rw (h.no_ticks, h.no_tildes)
 
   bare-closes : (f : Fence) → closes f l ≡ false
   unfolding closes
-  bare-closes Outside = refl
   bare-closes Ticks = rw bare-opener
   bare-closes Tildes = rw bare-opener
 
@@ -99,43 +98,40 @@ module _ (l : List ℕ) (h : Bare l) where
   bare-comment = rw h.no_comment
 
   -- such a line is no heading
-  pub bare-kind : (f : Fence) (c : Bool) → step_kind f c l ≡ still_kind f
+  pub bare-kind : (f : Option Fence) (c : Bool) → step_kind f c l ≡ still_kind f
   unfolding step_kind outside_kind written_kind
-  bare-kind Outside true = rw bare-opener
-  bare-kind Outside false = rw (bare-opener, bare-comment) (no_hash_lem l h.no_hash)
-  bare-kind Ticks c = refl
-  bare-kind Tildes c = refl
+  bare-kind None true = rw bare-opener
+  bare-kind None false = rw (bare-opener, bare-comment) (no_hash_lem l h.no_hash)
+  bare-kind (Some f) c = refl
 
   -- where no fence and no comment is open it leaves the state
-  pub bare-begin : step_after Outside false l ≡ record { fence = Outside; comment = false }
+  pub bare-begin : step_after None false l ≡ record { fence = None; comment = false }
   unfolding step_after outside_after comment_after
   bare-begin = rw (bare-opener, bare-comment)
 
   -- so it does in an open fence
-  pub bare_fence : (f : Fence) (c : Bool) → (f ≡ Outside → c ≡ false) → step_after f c l ≡ record { fence = f; comment = c }
+  pub bare_fence : (f : Option Fence) (c : Bool) → (f ≡ None → c ≡ false) → step_after f c l ≡ record { fence = f; comment = c }
   unfolding step_after
-  bare_fence Outside c g = rw (g refl) bare-begin
-  bare_fence Ticks c g = rw (bare-closes Ticks)
-  bare_fence Tildes c g = rw (bare-closes Tildes)
+  bare_fence None c g = rw (g refl) bare-begin
+  bare_fence (Some f) c g = rw (bare-closes f)
 
 -- a blank line is no heading
-pub blank_kind : (f : Fence) (c : Bool) (l : List ℕ) → is_blank l ≡ true → step_kind f c l ≡ still_kind f
+pub blank_kind : (f : Option Fence) (c : Bool) (l : List ℕ) → is_blank l ≡ true → step_kind f c l ≡ still_kind f
 blank_kind f c l e = bare-kind l (blank_bare l e) f c
 
 -- and leaves the state, in a comment too
-pub blank_after : (f : Fence) (c : Bool) (l : List ℕ) → is_blank l ≡ true → step_after f c l ≡ record { fence = f; comment = c }
+pub blank_after : (f : Option Fence) (c : Bool) (l : List ℕ) → is_blank l ≡ true → step_after f c l ≡ record { fence = f; comment = c }
 unfolding step_after outside_after comment_after is_space
-blank_after Outside true l e = rw (bare-opener l (blank_bare l e), blank_find 0x2D (0x2D ∷ 0x3E ∷ []) l refl e)
-blank_after Outside false l e = bare-begin l (blank_bare l e)
-blank_after Ticks c l e = rw (bare-closes l (blank_bare l e) Ticks)
-blank_after Tildes c l e = rw (bare-closes l (blank_bare l e) Tildes)
+blank_after None true l e = rw (bare-opener l (blank_bare l e), blank_find 0x2D (0x2D ∷ 0x3E ∷ []) l refl e)
+blank_after None false l e = bare-begin l (blank_bare l e)
+blank_after (Some f) c l e = rw (bare-closes l (blank_bare l e) f)
 
 -- a line that begins with no byte of `is_first` is no heading
-pub other_kind : (f : Fence) (c : Bool) (l : List ℕ) → begins l ≡ false → step_kind f c l ≡ still_kind f
+pub other_kind : (f : Option Fence) (c : Bool) (l : List ℕ) → begins l ≡ false → step_kind f c l ≡ still_kind f
 other_kind f c l e = bare-kind l (other_bare l e) f c
 
 -- and leaves the state unless a comment is open
-pub other_after : (f : Fence) (c : Bool) (l : List ℕ) → begins l ≡ false → (f ≡ Outside → c ≡ false) → step_after f c l ≡ record { fence = f; comment = c }
+pub other_after : (f : Option Fence) (c : Bool) (l : List ℕ) → begins l ≡ false → (f ≡ None → c ≡ false) → step_after f c l ≡ record { fence = f; comment = c }
 other_after f c l e = bare_fence l (other_bare l e) f c
 
 -- the kinds of lines and lines after them
@@ -178,27 +174,25 @@ blanks-state zero st = refl
 blanks-state (suc n) st = ap (λ (s : WalkState). states_after s (replicate n [])) (blank_after st.fence st.comment [] empty_blank) ∙ blanks-state n st
 
 -- the shallowest level does not see such a line
-pub still-shallower : (f : Fence) (b : Option ℕ) → shallower b (still_kind f) ≡ b
-still-shallower Outside b = refl
-still-shallower Ticks b = refl
-still-shallower Tildes b = refl
+pub still-shallower : (f : Option Fence) (b : Option ℕ) → shallower b (still_kind f) ≡ b
+still-shallower None b = refl
+still-shallower (Some f) b = refl
 
 -- nor does the deepest
-pub still-deeper : (f : Fence) (b : ℕ) → deeper b (still_kind f) ≡ b
-still-deeper Outside b = refl
-still-deeper Ticks b = refl
-still-deeper Tildes b = refl
+pub still-deeper : (f : Option Fence) (b : ℕ) → deeper b (still_kind f) ≡ b
+still-deeper None b = refl
+still-deeper (Some f) b = refl
 
 -- what is gathered from kinds line by line, where such a line changes nothing
 module _ {C : Type 0} (step : C → LineKind → C) (F : C → List LineKind → C) (on : (b : C) (k : LineKind) (ks : List LineKind) → F b (k ∷ ks) ≡ F (step b k) ks)
-    (stay : (f : Fence) (b : C) → step b (still_kind f) ≡ b) where
+    (stay : (f : Option Fence) (b : C) → step b (still_kind f) ≡ b) where
   -- a blank line before lines
   pub gather_blank : (b : C) (st : WalkState) (l : List ℕ) (ls : List (List ℕ)) → is_blank l ≡ true → F b (kinds_from st (l ∷ ls)) ≡ F b (kinds_from st ls)
   gather_blank b st l ls e =
       ap (F b) (blank_kinds st l ls e) ∙ on b (still_kind st.fence) (kinds_from st ls) ∙ ap (λ (c : C). F c (kinds_from st ls)) (stay st.fence b)
 
   -- n lines blanked
-  gather-still : (n : ℕ) (f : Fence) (b : C) (ks : List LineKind) → F b (replicate n (still_kind f) ++ ks) ≡ F b ks
+  gather-still : (n : ℕ) (f : Option Fence) (b : C) (ks : List LineKind) → F b (replicate n (still_kind f) ++ ks) ≡ F b ks
   gather-still zero f b ks = refl
   gather-still (suc n) f b ks =
       on b (still_kind f) (replicate n (still_kind f) ++ ks) ∙ ap (λ (c : C). F c (replicate n (still_kind f) ++ ks)) (stay f b) ∙ gather-still n f b ks
@@ -207,10 +201,10 @@ module _ {C : Type 0} (step : C → LineKind → C) (F : C → List LineKind →
   gather_blanks n b st ls = rw (blanks_kinds n st ls) (gather-still n st.fence b (kinds_from st ls))
 
 -- an empty line
-pub empty_kind : (f : Fence) (c : Bool) (l : List ℕ) → length l ≡ 0 → step_kind f c l ≡ still_kind f
+pub empty_kind : (f : Option Fence) (c : Bool) (l : List ℕ) → length l ≡ 0 → step_kind f c l ≡ still_kind f
 empty_kind f c l h = blank_kind f c l (none_blank l h)
 
-pub empty_after : (f : Fence) (c : Bool) (l : List ℕ) → length l ≡ 0 → step_after f c l ≡ record { fence = f; comment = c }
+pub empty_after : (f : Option Fence) (c : Bool) (l : List ℕ) → length l ≡ 0 → step_after f c l ≡ record { fence = f; comment = c }
 empty_after f c l h = blank_after f c l (none_blank l h)
 
 pub ruleset still_lines = (begins-none, other_kind, other_after)

@@ -1,5 +1,6 @@
 -- Laws of `specs/Walk.antt`: a heading has a level of 1 to 6, and its text lies within the line; what closes a fence; a line that opens one, and one that
 -- does not. Assumes nothing.
+use Rattle.std.specs.Prelude.{Option, Some, None}
 use Rattle.std.specs.List.{prefix_len}
 use Rattle.text.proofs.BytesLaws.{rest}
 use Rattle.text.proofs.PatternLaws.{starts-long}
@@ -19,7 +20,7 @@ use Rattle.fence.specs.Fences.{opener}
 use Rattle.fence.proofs.FenceLaws.{ticks-start, tildes_start}
 use Rattle.heading.specs.Walk.{hashes, text_start, text_end, heading_of, same_fence, closes, opens_comment, written_kind, outside_kind, step_kind, step_after, kinds_from}
 use Rattle.fence.specs.declared.Fence.{Fence}
-use Rattle.fence.specs.declared.Fence.TheVariants.{Outside, Ticks, Tildes}
+use Rattle.fence.specs.declared.Fence.TheVariants.{Ticks, Tildes}
 use Rattle.heading.specs.declared.walk.LineKind.{LineKind}
 use Rattle.heading.specs.declared.walk.LineKind.TheVariants.{Quoted, Heading, Other}
 use Rattle.heading.specs.declared.walk.WalkState.{WalkState}
@@ -79,26 +80,24 @@ heading-fits l = go (leb 1 (hashes l)) (leb (hashes l) 6) (starts_with (bytes " 
     go true false z p q = tt
     go false y z p q = tt
 
-kind_fits : (f : Fence) (comment : Bool) (l : List ℕ) → Within l (step_kind f comment l)
+kind_fits : (f : Option Fence) (comment : Bool) (l : List ℕ) → Within l (step_kind f comment l)
 unfolding step_kind outside_kind written_kind
-kind_fits Outside comment l = outer (opener l)
+kind_fits None comment l = outer (opener l)
   where
     by : (x y : Bool) → Within l (cond x Other (cond y Other (heading_of l)))
     by true y = tt
     by false true = tt
     by false false = heading-fits l
 
-    outer : (g : Fence) → Within l (outside_kind comment l g)
-    outer Outside = by comment (opens_comment l)
-    outer Ticks = tt
-    outer Tildes = tt
-kind_fits Ticks comment l = tt
-kind_fits Tildes comment l = tt
+    outer : (g : Option Fence) → Within l (outside_kind comment l g)
+    outer None = by comment (opens_comment l)
+    outer (Some f) = tt
+kind_fits (Some f) comment l = tt
 
 pub heading-within : (l : List ℕ) (n a e : ℕ) → heading_of l ≡ Heading n a e → ((1 ≤ n) × (n ≤ 6)) × ((a ≤ e) × (e ≤ length l))
 heading-within l n a e q = subst (Within l) q (heading-fits l)
 
-pub kind-within : (f : Fence) (comment : Bool) (l : List ℕ) (n a e : ℕ) → step_kind f comment l ≡ Heading n a e
+pub kind-within : (f : Option Fence) (comment : Bool) (l : List ℕ) (n a e : ℕ) → step_kind f comment l ≡ Heading n a e
     → ((1 ≤ n) × (n ≤ 6)) × ((a ≤ e) × (e ≤ length l))
 kind-within f comment l n a e q = subst (Within l) q (kind_fits f comment l)
 

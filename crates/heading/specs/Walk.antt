@@ -1,11 +1,11 @@
 -- Document 01, "Headings and levels": headings, and the walk over lines that finds them. A line is a list of bytes, as `split('\n')` gives it.
-use Rattle.std.specs.Prelude.{ℕ, ◌+◌, Bool, true, false, cond, not, ◌&&◌, List, [], ◌∷◌, drop, leb}
+use Rattle.std.specs.Prelude.{ℕ, ◌+◌, Bool, true, false, cond, not, ◌&&◌, List, [], ◌∷◌, drop, leb, Option, Some, None}
 use Rattle.text.specs.Bytes.{is, first}
 use Rattle.text.specs.Pattern.{bytes, starts_with, contains}
 use Rattle.text.specs.Space.{lead, kept, trim_start}
 use Rattle.fence.specs.Fences.{opener}
 use Rattle.fence.specs.declared.Fence.{Fence}
-use Rattle.fence.specs.declared.Fence.TheVariants.{Outside, Ticks, Tildes}
+use Rattle.fence.specs.declared.Fence.TheVariants.{Ticks, Tildes}
 use Rattle.heading.specs.declared.walk.LineKind.{LineKind}
 use Rattle.heading.specs.declared.walk.LineKind.TheVariants.{Quoted, Heading, Other}
 use Rattle.heading.specs.declared.walk.WalkState.{WalkState}
@@ -29,14 +29,12 @@ heading_of l =
     Other
 
 -- "until a line whose trimmed start has the same three bytes": the open fence, and what the line opens
-abbrev pub same_fence : Fence → Fence → Bool
-same_fence Outside g = false
-same_fence Ticks Outside = false
-same_fence Ticks Ticks = true
-same_fence Ticks Tildes = false
-same_fence Tildes Outside = false
-same_fence Tildes Ticks = false
-same_fence Tildes Tildes = true
+abbrev pub same_fence : Fence → Option Fence → Bool
+same_fence f None = false
+same_fence Ticks (Some Ticks) = true
+same_fence Ticks (Some Tildes) = false
+same_fence Tildes (Some Ticks) = false
+same_fence Tildes (Some Tildes) = true
 
 unfoldable pub closes : Fence → List ℕ → Bool
 closes f l = same_fence f (opener l)
@@ -53,29 +51,25 @@ unfoldable pub comment_after : Bool → List ℕ → Bool
 comment_after comment l = cond comment (not (contains (bytes "-->") l)) (opens_comment l)
 
 -- "Outside, a fence opener is looked for before comment state." The line of an opener is quoted; any other line is read
-unfoldable pub outside_kind : Bool → List ℕ → Fence → LineKind
-outside_kind comment l Outside = written_kind comment l
-outside_kind comment l Ticks = Quoted
-outside_kind comment l Tildes = Quoted
+unfoldable pub outside_kind : Bool → List ℕ → Option Fence → LineKind
+outside_kind comment l None = written_kind comment l
+outside_kind comment l (Some f) = Quoted
 
-unfoldable pub outside_after : Bool → List ℕ → Fence → WalkState
-outside_after comment l Outside = record { fence = Outside; comment = comment_after comment l }
-outside_after comment l Ticks = record { fence = Ticks; comment = comment }
-outside_after comment l Tildes = record { fence = Tildes; comment = comment }
+unfoldable pub outside_after : Bool → List ℕ → Option Fence → WalkState
+outside_after comment l None = record { fence = None; comment = comment_after comment l }
+outside_after comment l (Some f) = record { fence = Some f; comment = comment }
 
 -- "In a fence lines are quoted until a line whose trimmed start has the same three bytes; opener and closer are quoted too."
-unfoldable pub step_kind : Fence → Bool → List ℕ → LineKind
-step_kind Outside comment l = outside_kind comment l (opener l)
-step_kind Ticks comment l = Quoted
-step_kind Tildes comment l = Quoted
+unfoldable pub step_kind : Option Fence → Bool → List ℕ → LineKind
+step_kind None comment l = outside_kind comment l (opener l)
+step_kind (Some f) comment l = Quoted
 
-unfoldable pub step_after : Fence → Bool → List ℕ → WalkState
-step_after Outside comment l = outside_after comment l (opener l)
-step_after Ticks comment l = record { fence = cond (closes Ticks l) Outside Ticks; comment = comment }
-step_after Tildes comment l = record { fence = cond (closes Tildes l) Outside Tildes; comment = comment }
+unfoldable pub step_after : Option Fence → Bool → List ℕ → WalkState
+step_after None comment l = outside_after comment l (opener l)
+step_after (Some f) comment l = record { fence = cond (closes f l) None (Some f); comment = comment }
 
 abbrev pub walk_begin : WalkState
-walk_begin = record { fence = Outside; comment = false }
+walk_begin = record { fence = None; comment = false }
 
 -- the kinds of lines, one after the other
 unfoldable pub kinds_from : WalkState → List (List ℕ) → List LineKind
@@ -88,7 +82,6 @@ states_after st [] = st
 states_after st (l ∷ ls) = states_after (step_after st.fence st.comment l) ls
 
 -- what a line is that leaves the state as it is, and is no heading
-abbrev pub still_kind : Fence → LineKind
-still_kind Outside = Other
-still_kind Ticks = Quoted
-still_kind Tildes = Quoted
+abbrev pub still_kind : Option Fence → LineKind
+still_kind None = Other
+still_kind (Some f) = Quoted

@@ -1,7 +1,6 @@
 // Levels: the shallowest, the shift, and the line that a heading becomes.
 ghost use Rattle.std.specs.Prelude.{◌≡◌, ◌+◌, ◌≤◌, pos, ◌+ℤ◌, length, None};
 ghost use Rattle.std.proofs.lemmas.List.Edits.{sets};
-ghost use Rattle.std.specs.Int.Signed.{mag};
 ghost use Rattle.text.specs.Lines.{pieces};
 ghost use Rattle.heading.specs.Walk.{walk_begin, kinds_from};
 ghost use Rattle.heading.specs.Level.{least as least_of, shallower as shallower_of, shallowest_of, shift_of, moved_to, heading_line, IsLevel};
@@ -25,7 +24,7 @@ pub fn shallower(found: Option<usize>, kind: LineKind) -> Option<usize>
     }
 }
 
-// The shallowest level of a text's headings.
+// The shallowest level of a text's headings; None where it has none.
 #[tactic(auto, unfolding(crate::specs::Level::shallowest_of))]
 pub fn shallowest(s: &[u8]) -> Option<usize>
     ensures value { result ≡ shallowest_of None (kinds_from walk_begin (pieces s.now)) }
@@ -41,7 +40,7 @@ pub fn shallowest(s: &[u8]) -> Option<usize>
 // The shift that takes the shallowest heading to the target.
 pub fn shift_to(target: usize, found: Option<usize>) -> i32
     requires { (target ≤ 7) × IsLevel found }
-    ensures { (result ≡ shift_of target found) × (mag result ≤ 7) }
+    ensures { result ≡ shift_of target found }
 {
     match found {
         Some(n) => target as i32 - n as i32,
@@ -49,12 +48,12 @@ pub fn shift_to(target: usize, found: Option<usize>) -> i32
     }
 }
 
-// The level with the shift added, where that is 1 to 6.
+// The level with the shift added, where that is 1 to 6. A sum that an i32 cannot hold is past them too.
 pub fn shifted(level: usize, shift: i32) -> Option<usize>
-    requires { (level ≤ 7) × (mag shift ≤ 7) }
+    requires { level ≤ 7 }
     ensures { result ≡ moved_to (pos level +ℤ shift) }
 {
-    let sum = level as i32 + shift;
+    let sum = (level as i32).saturating_add(shift);
     if (1..=6).contains(&sum) {
         Some(sum as usize)
     } else {

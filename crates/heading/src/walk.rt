@@ -1,8 +1,7 @@
 // The heading walk: a step a line. A line is what stands between LFs.
-ghost use Rattle.std.specs.Prelude.{◌≡◌, ◌+◌, ◌≤◌, length, false, cond};
+ghost use Rattle.std.specs.Prelude.{◌≡◌, ◌+◌, ◌≤◌, length, false, cond, Some, None};
 ghost use Rattle.text.specs.First.{is_first};
 ghost use Rattle.heading.specs.Walk.{hashes as hashes_of, heading_of, closes as closes_by, opens_comment, written_kind, comment_after, step_kind, step_after, still_kind, walk_begin};
-ghost use Rattle.fence.specs.declared.Fence.TheVariants.{Outside};
 ghost use Rattle.std.specs.Iterator.{YieldsFirst, item_count};
 ghost use Rattle.heading.specs.Walk.{kinds_from};
 ghost use Rattle.text.specs.Lines.{pieces};
@@ -25,9 +24,10 @@ pub enum LineKind {
     Other,
 }
 
+// The fence that is open, where one is, and whether a comment is.
 #[derive(Clone, Copy)]
 pub struct WalkState {
-    pub fence: Fence,
+    pub fence: Option<Fence>,
     pub comment: bool,
 }
 
@@ -43,7 +43,7 @@ pub fn begin() -> WalkState
     ensures { result ≡ walk_begin }
 {
     WalkState {
-        fence: Fence::Outside,
+        fence: None,
         comment: false,
     }
 }
@@ -74,10 +74,7 @@ pub fn split_heading(line: &[u8]) -> LineKind
 fn closes(fence: Fence, line: &[u8]) -> bool
     ensures { result ≡ closes_by fence line.now }
 {
-    matches!(
-        (fence, fence::opening_fence(line)),
-        (Fence::Ticks, Fence::Ticks) | (Fence::Tildes, Fence::Tildes)
-    )
+    fence::opening_fence(line) == Some(fence)
 }
 
 // Whether a line opens a comment that it does not end.
@@ -92,7 +89,7 @@ fn opens_comment(line: &[u8]) -> bool
 // A line that no fence quotes, with a comment open above it or not.
 #[tactic(auto, unfolding(crate::specs::Walk::written_kind, crate::specs::Walk::comment_after))]
 fn written(comment: bool, line: &[u8]) -> WalkStep
-    ensures { (result.kind ≡ written_kind comment line.now) × (result.state ≡ record { fence = Outside; comment = comment_after comment line.now }) }
+    ensures { (result.kind ≡ written_kind comment line.now) × (result.state ≡ record { fence = None; comment = comment_after comment line.now }) }
 {
     let (kind, comment) = if comment {
         (LineKind::Other, !pattern::contains(line, b"-->"))
@@ -104,14 +101,14 @@ fn written(comment: bool, line: &[u8]) -> WalkStep
     WalkStep {
         kind,
         state: WalkState {
-            fence: Fence::Outside,
+            fence: None,
             comment,
         },
     }
 }
 
 // A quoted line, with a fence open after it or not.
-fn quoted(fence: Fence, comment: bool) -> WalkStep
+fn quoted(fence: Option<Fence>, comment: bool) -> WalkStep
     ensures { result ≡ record { kind = LineKind.Quoted; state = record { fence = fence; comment = comment } } }
 {
     WalkStep {
@@ -123,10 +120,10 @@ fn quoted(fence: Fence, comment: bool) -> WalkStep
 // A line outside fences: an opener is looked for before comment state.
 #[tactic(auto, unfolding(crate::specs::Walk::step_kind, crate::specs::Walk::step_after, crate::specs::Walk::outside_kind, crate::specs::Walk::outside_after))]
 fn outside(comment: bool, line: &[u8]) -> WalkStep
-    ensures { (result.kind ≡ step_kind Outside comment line.now) × (result.state ≡ step_after Outside comment line.now) }
+    ensures { (result.kind ≡ step_kind None comment line.now) × (result.state ≡ step_after None comment line.now) }
 {
     let opener = fence::opening_fence(line);
-    if fence::opens(opener) {
+    if opener.is_some() {
         quoted(opener, comment)
     } else {
         written(comment, line)
@@ -135,12 +132,12 @@ fn outside(comment: bool, line: &[u8]) -> WalkStep
 
 // A line in an open fence.
 fn inside(fence: Fence, comment: bool, line: &[u8]) -> WalkStep
-    ensures { result ≡ record { kind = LineKind.Quoted; state = record { fence = cond (closes_by fence line.now) Outside fence; comment = comment } } }
+    ensures { result ≡ record { kind = LineKind.Quoted; state = record { fence = cond (closes_by fence line.now) None (Some fence); comment = comment } } }
 {
     if closes(fence, line) {
-        quoted(Fence::Outside, comment)
+        quoted(None, comment)
     } else {
-        quoted(fence, comment)
+        quoted(Some(fence), comment)
     }
 }
 
@@ -156,7 +153,7 @@ pub fn may_begin(b: u8) -> bool
 fn still(state: WalkState) -> WalkStep
     ensures { result ≡ record { kind = still_kind state.fence; state = state } }
 {
-    let kind = if fence::opens(state.fence) {
+    let kind = if state.fence.is_some() {
         LineKind::Quoted
     } else {
         LineKind::Other
@@ -170,8 +167,8 @@ fn read(state: WalkState, line: &[u8]) -> WalkStep
     ensures { (result.kind ≡ step_kind state.fence state.comment line.now) × (result.state ≡ step_after state.fence state.comment line.now) }
 {
     match state.fence {
-        Fence::Outside => outside(state.comment, line),
-        fence => inside(fence, state.comment, line),
+        None => outside(state.comment, line),
+        Some(fence) => inside(fence, state.comment, line),
     }
 }
 

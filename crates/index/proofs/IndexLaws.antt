@@ -1,6 +1,6 @@
 -- Laws of `specs/Index.antt`: a needless zero, a line by its tabs, and the first line that is ill formed, line by line.
 -- Assumes nothing.
-use Rattle.std.specs.Prelude.{None}
+use Rattle.std.specs.Prelude.{Some, None}
 use Prim.Native.Nat.{ℕ, ◌+◌, ◌-◌, ◌≤◌, ◌<◌}
 use native.Mathlib.Nat.{not-suc-le-zero, sub-zero}
 use native.Mathlib.Omega.{arith}
@@ -59,25 +59,25 @@ module _ (l : List ℕ) (a : ℕ) (p : Tab l 0 a) where
 
 -- the first line that is ill formed, where the piece at place a ends at e: the last piece, then one with a piece behind it
 before-piece : (n : ℕ) (l : List ℕ) (ls : List (List ℕ)) → 0 < length ls
-    → ill_formed_from n (l ∷ ls) ≡ cond (is_fields (line_of l)) (ill_formed_from (n + 1) ls) n
+    → ill_formed_from n (l ∷ ls) ≡ cond (is_fields (line_of l)) (ill_formed_from (n + 1) ls) (Some n)
 unfolding ill_formed_from
 before-piece n l [] h = absurd (not-suc-le-zero h)
 before-piece n l (m ∷ ls) h = refl
 
 module _ (s : List ℕ) (n a e : ℕ) where
   module _ (p : pieces (drop a s) ≡ part a e s ∷ []) where
-    pub last_empty : a ≡ e → 0 ≡ ill_formed_from n (pieces (drop a s))
+    pub last_empty : a ≡ e → None ≡ ill_formed_from n (pieces (drop a s))
     unfolding ill_formed_from
     last_empty h = rw (p, eq-eqb (length (part a e s)) 0 (omega (arith, part_length s a e)))
 
-    pub last_open : a < e → e ≤ length s → n ≡ ill_formed_from n (pieces (drop a s))
+    pub last_open : a < e → e ≤ length s → Some n ≡ ill_formed_from n (pieces (drop a s))
     unfolding ill_formed_from
     last_open h k =
         let m : length (part a e s) ≡ e - a = length-take-le (e - a) (drop a s) (omega (arith, length-drop a s)) in
         rw (p, ne_eqb (length (part a e s)) 0 (λ z. omega arith))
 
   pub next-piece : pieces (drop a s) ≡ part a e s ∷ pieces (drop (e + 1) s)
-      → ill_formed_from n (pieces (drop a s)) ≡ cond (is_fields (line_of (part a e s))) (ill_formed_from (n + 1) (pieces (drop (e + 1) s))) n
+      → ill_formed_from n (pieces (drop a s)) ≡ cond (is_fields (line_of (part a e s))) (ill_formed_from (n + 1) (pieces (drop (e + 1) s))) (Some n)
   next-piece p = rw p (before-piece n (part a e s) (pieces (drop (e + 1) s)) (split-some LF (drop (e + 1) s)))
 
 pub ruleset lines = (line-one, line-two, line_four, line-three)

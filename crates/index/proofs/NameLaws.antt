@@ -1,7 +1,7 @@
 -- Laws of the names of records: "1 to 255 bytes". Assumes nothing.
 use Rattle.std.specs.Prelude.{Option, Some, None}
-use Prim.Native.Nat.{ℕ, zero, suc, ◌+◌, ◌-◌, ◌≤◌, ◌<◌}
-use native.Mathlib.Nat.{add-zero, not-suc-le-zero}
+use Prim.Native.Nat.{ℕ, zero, suc, ◌≤◌, ◌<◌}
+use native.Mathlib.Nat.{not-suc-le-zero}
 use native.Mathlib.Omega.{arith}
 use mathlib.Core.Path.{◌≡◌, refl, sym, ap, ◌∙◌}
 use mathlib.Core.Bool.{Bool, true, false, cond, not, ◌&&◌}
@@ -11,11 +11,14 @@ use lib.Dec.{leb}
 use borrow.Author.Tests.{leb-true}
 use Rattle.index.specs.declared.line.IndexLine.{IndexLine}
 use Rattle.text.specs.Bytes.{any}
+use Rattle.text.specs.Lines.{pieces}
 use Rattle.text.specs.Split.{split}
 use Rattle.text.proofs.BytesLaws.{part_full}
 use Rattle.text.proofs.PatternLaws.{and_left, and_right}
-use Rattle.index.specs.Index.{TAB, is_unprinted, is_name, field_of, numbered, fields, line_of, Record, entry, recorded, records_from, records}
-use Rattle.index.specs.Rows.{row_at, record_of, records_in, AreRows}
+use Rattle.index.specs.Index.{TAB, is_unprinted, is_name, field_of, numbered, fields, line_of, Record, recorded, records_from, records}
+use Rattle.index.specs.Rows.{zero_row, record_of, AreShort, AreRows}
+use Rattle.index.specs.declared.rows.Row.{Row}
+use Rattle.std.proofs.lemmas.List.{length-map, get_or-map}
 
 name-at-most : (s : List ℕ) → is_name s ≡ true → length s ≤ 255
 unfolding is_name
@@ -48,21 +51,13 @@ records-short (l ∷ ls) k d h = go (fields (split TAB l)) refl k h (λ i j. rec
     go (Some p) e (suc j) t ih = ih j (omega arith)
     go None e j t ih = ih j t
 
--- the record of row k
-record_row : (index rows : List ℕ) (j n k : ℕ) (d : Record) → k < n → get_or (records_in index rows j n) k d ≡ record_of index (row_at rows (j + k))
-unfolding records_in
-record_row index rows j zero k d h = absurd (not-suc-le-zero h)
-record_row index rows j (suc n) zero d h = rw (add-zero j)
-record_row index rows j (suc n) (suc k) d h =
-    let e : j + suc k ≡ (j + 1) + k = omega arith in
-    rw e (record_row index rows (j + 1) n k d (omega arith))
-
--- the name that a row tells of
-pub row-short : {index rows : List ℕ} → AreRows index rows → (k : ℕ) → k < length (records index) → (row_at rows k).end - (row_at rows k).name ≤ 255
-row-short {index} {rows} a k h =
-    let d : Record = entry [] 0 0 in
-    let z : 0 + k ≡ k = omega arith in
-    let e : get_or (records index) k d ≡ record_of index (row_at rows k) =
-    ap (λ (rs : List Record). get_or rs k d) (sym a.same) ∙ (rw z at (record_row index rows 0 (length (records index)) k d h)) in
-    let s : length (record_of index (row_at rows k)).name ≤ 255 = rw e at (records-short _ k d h) in
-    omega (arith, part_full index (row_at rows k).name (row_at rows k).end (a.named.within k h))
+-- the names that rows tell of
+pub rows_short : {index : List ℕ} {rows : List Row} → AreRows index rows → AreShort rows
+rows_short {index} {rows} a k d h =
+    let r : Row = get_or rows k d in
+    let none : Record = record_of index zero_row in
+    let e : get_or (records index) k none ≡ record_of index r =
+    ap (λ (rs : List Record). get_or rs k none) (sym a.same) ∙ get_or-map (record_of index) rows k d none h in
+    let l : length rows ≡ length (records index) = sym (length-map rows (record_of index)) ∙ ap length a.same in
+    let s : length (record_of index r).name ≤ 255 = rw e at (records-short (pieces index) k none (omega arith)) in
+    omega (arith, part_full index r.name r.end (a.named k d h).1)

@@ -1,5 +1,5 @@
 -- Laws of how an index is read into rows: line by line, judged and kept at once. Assumes nothing.
-use Rattle.std.specs.Prelude.{Option, Some, None, Ok, Err}
+use Rattle.std.specs.Prelude.{Option, Some, None, Result, Ok, Err, IsOk, OnOk}
 use Prim.Native.Nat.{ℕ, suc, ◌+◌, ◌-◌, ◌≤◌, ◌<◌}
 use native.Mathlib.Nat.{add-zero, not-suc-le-zero}
 use native.Mathlib.Decide.{dec_le}
@@ -10,8 +10,9 @@ use mathlib.Core.List.{List, [], ◌∷◌, ◌++◌, append_assoc, append-nil}
 use lib.ListN.{length, take, drop, length-take}
 use lib.Seq.{take-take}
 use lib.Dec.{eqb}
-use borrow.Author.Count.{below_more}
-use borrow.Author.Tests.{eqb-true, ne_eqb}
+use borrow.Author.Tests.{ne_eqb}
+use Rattle.std.proofs.lemmas.List.{length-append, map-append}
+use Rattle.std.proofs.lemmas.List.Elements.{All-push}
 use Rattle.index.specs.declared.line.IndexLine.{IndexLine}
 use Rattle.text.specs.Bytes.{part, is, first, count}
 use Rattle.text.specs.Lines.{LF, pieces, ended}
@@ -19,10 +20,10 @@ use Rattle.text.specs.Split.{split}
 use Rattle.text.proofs.BytesLaws.{first_le, part_length}
 use Rattle.text.proofs.PieceLaws.{EndedAt, ended_at, ended_none}
 use Rattle.text.proofs.SplitLaws.{split_step, split-last, split-count}
-use Rattle.index.specs.Index.{TAB, is_name, field_of, numbered, fields, line_of, is_fields, ill_formed_from, ill_formed, entry, recorded, records_from, records}
-use Rattle.index.specs.Rows.{row, row_at, put_row, record_of, records_in, AreNamed, AreRows, index_read}
+use Rattle.index.specs.Index.{TAB, Record, is_name, field_of, numbered, fields, is_fields, line_of, ill_formed_from, ill_formed, entry, recorded, records_from, records}
+use Rattle.index.specs.Rows.{row, records_of, AreNamed, AreRows, judged, index_read}
+use Rattle.index.specs.declared.rows.Row.{Row}
 use Rattle.index.proofs.IndexLaws.{last_empty, last_open, next-piece}
-use Rattle.index.proofs.RowsLaws.{row-forward, row_within, records_more, records-same, rows_length, row_before, row_written}
 
 -- the name is the first field of its line
 fields-name : (p : List ℕ) (ps : List (List ℕ)) (i : IndexLine) → fields (p ∷ ps) ≡ Some i → i.name ≡ length p
@@ -61,85 +62,91 @@ no_record [] h = refl
 no_record (x ∷ l) h = absurd (omega arith)
 
 -- how far an index is read: its lines up to place a are n records, and the first 64 are in the rows
-pub record Upto (index rows : List ℕ) (n a : ℕ) : Type 0 where
-  pub whole : length rows ≡ 256
+pub record Upto (index : List ℕ) (rows : List Row) (n a : ℕ) : Type 0 where
   pub within : a ≤ length index
   pub short : n ≤ a
   pub judged : ill_formed_from (n + 1) (pieces (drop a index)) ≡ ill_formed index
   pub counted : n + length (records_from (pieces (drop a index))) ≡ length (records index)
-  pub same : n ≤ 64 → records_in index rows 0 n ++ records_from (pieces (drop a index)) ≡ records index
-  pub named : n ≤ 64 → AreNamed index rows n
+  pub kept : n ≤ 64 → length rows ≡ n
+  pub same : n ≤ 64 → records_of index rows ++ records_from (pieces (drop a index)) ≡ records index
+  pub named : n ≤ 64 → AreNamed index rows
 
-pub read_start : (index rows : List ℕ) → length rows ≡ 256 → Upto index rows 0 0
-unfolding records_in
-read_start index rows e =
-    record {
-      whole = e;
+pub read_start : (index : List ℕ) {rows : List Row} → rows ≡ [] → Upto index rows 0 0
+read_start index e =
+    rw e (record {
       within = omega arith;
       short = omega arith;
       judged = refl;
       counted = omega arith;
+      kept = λ h. refl;
       same = λ h. refl;
-      named = λ h. record { forward = λ k i. absurd (not-suc-le-zero i); within = λ k i. absurd (not-suc-le-zero i) };
-    }
+      named = λ h k d i. absurd (not-suc-le-zero i);
+    })
+
+-- in an index that is not ill formed each piece but the last is a record, and the last is empty
+recorded-length : (n : ℕ) (k : Option ℕ) (l : List ℕ) (rs : List Record) (o : Option IndexLine) → cond (is_fields o) k (Some n) ≡ None
+    → (k ≡ None) × (length (recorded l o rs) ≡ suc (length rs))
+recorded-length n k l rs (Some i) e = (e, refl)
+recorded-length n k l rs None e = cc
+
+pieces-length : (n : ℕ) (ls : List (List ℕ)) → 0 < length ls → ill_formed_from n ls ≡ None → suc (length (records_from ls)) ≡ length ls
+unfolding ill_formed_from records_from line_of split
+pieces-length n [] k e = absurd (not-suc-le-zero k)
+pieces-length n ([] ∷ []) k e = refl
+pieces-length n ((x ∷ l) ∷ []) k e = let z : Some n ≡ None = rw (ne_eqb (suc (length l)) 0 (λ q. omega arith)) at e in cc
+pieces-length n (l ∷ m ∷ ls) k e =
+    let r = recorded-length n (ill_formed_from (n + 1) (m ∷ ls)) l (records_from (m ∷ ls)) (line_of l) e in
+    ap suc (r.1 ∙ pieces-length (n + 1) (m ∷ ls) (omega arith) r.0)
+
+-- so it has as many records as LFs
+pub records-count : (index : List ℕ) → ill_formed index ≡ None → count (is LF) index ≡ length (records index)
+records-count index e =
+    let l = pieces-length 1 (pieces index) (omega (arith, split-count LF index)) e in
+    omega (arith, split-count LF index)
 
 -- what is answered
-read_bad : (index : List ℕ) {n : ℕ} → 0 < n → n ≡ ill_formed index → Err n ≡ index_read index
+read_bad : (index : List ℕ) {n : ℕ} → Some n ≡ ill_formed index → Err n ≡ index_read index
 unfolding index_read
-read_bad index {n} h e = rw (← e, ne_eqb n 0 (λ z. omega arith))
+read_bad index e = rw (← e)
 
-read_good : (index : List ℕ) {n : ℕ} → 0 ≡ ill_formed index → n ≡ length (records index) → Ok n ≡ index_read index
+read_good : (index : List ℕ) {n : ℕ} → None ≡ ill_formed index → n ≡ length (records index) → Ok n ≡ index_read index
 unfolding index_read
 read_good index z e = rw (← z, e)
 
 -- and what an answer tells
 module _ (index : List ℕ) {n : ℕ} where
-  pub read_line : Err n ≡ index_read index → (n ≡ ill_formed index) × (eqb (ill_formed index) 0 ≡ false)
+  pub read_line : Err n ≡ index_read index → ill_formed index ≡ Some n
   unfolding index_read
-  read_line e = go (eqb (ill_formed index) 0) e
+  read_line e = go (ill_formed index) e
     where
-      go : (b : Bool) → Err n ≡ cond b (Ok (length (records index))) (Err (ill_formed index)) → (n ≡ ill_formed index) × (b ≡ false)
-      go false h = (cc, refl)
-      go true h = let z : ◌≡◌ {A = ℕ} 0 1 = cc in absurd (omega arith)
+      go : (o : Option ℕ) → Err n ≡ judged o (length (records index)) → o ≡ Some n
+      go (Some line) h = cc
+      go None h = cc
 
-  pub read_records : Ok n ≡ index_read index → (ill_formed index ≡ 0) × (n ≡ length (records index))
+  pub read_none : Ok n ≡ index_read index → ill_formed index ≡ None
   unfolding index_read
-  read_records e = go (eqb (ill_formed index) 0) refl e
+  read_none e = go (ill_formed index) e
     where
-      go : (b : Bool) → eqb (ill_formed index) 0 ≡ b → Ok n ≡ cond b (Ok (length (records index))) (Err (ill_formed index))
-          → (ill_formed index ≡ 0) × (n ≡ length (records index))
-      go true t h = (eqb-true (ill_formed index) 0 t, cc)
-      go false t h = let z : ◌≡◌ {A = ℕ} 0 1 = cc in absurd (omega arith)
+      go : (o : Option ℕ) → Ok n ≡ judged o (length (records index)) → o ≡ None
+      go (Some line) h = cc
+      go None h = refl
 
--- in an index that is not ill formed each piece but the last is a record, and the last is empty
-recorded-length : (n k : ℕ) (l : List ℕ) (ls : List (List ℕ)) (i : Option IndexLine) → 0 < n → cond (is_fields i) k n ≡ 0
-    → (k ≡ 0) × (length (recorded l i (records_from ls)) ≡ suc (length (records_from ls)))
-recorded-length n k l ls (Some p) h e = (e, refl)
-recorded-length n k l ls None h e = absurd (omega arith)
-
-pieces-length : (n : ℕ) (ls : List (List ℕ)) → 0 < n → 0 < length ls → ill_formed_from n ls ≡ 0 → suc (length (records_from ls)) ≡ length ls
-unfolding ill_formed_from records_from line_of split
-pieces-length n [] h k e = absurd (not-suc-le-zero k)
-pieces-length n ([] ∷ []) h k e = refl
-pieces-length n ((x ∷ l) ∷ []) h k e = let z : n ≡ 0 = rw (ne_eqb (suc (length l)) 0 (λ q. omega arith)) at e in absurd (omega arith)
-pieces-length n (l ∷ m ∷ ls) h k e =
-    let r = recorded-length n (ill_formed_from (n + 1) (m ∷ ls)) l (m ∷ ls) (line_of l) h e in
-    ap suc (r.1 ∙ pieces-length (n + 1) (m ∷ ls) (omega arith) (omega arith) r.0)
-
--- so it has as many records as LFs
-pub records-count : (index : List ℕ) → ill_formed index ≡ 0 → count (is LF) index ≡ length (records index)
-records-count index e =
-    let l = pieces-length 1 (pieces index) (omega arith) (omega (arith, split-count LF index)) e in
-    omega (arith, split-count LF index)
+  pub read_records : Ok n ≡ index_read index → n ≡ length (records index)
+  unfolding index_read
+  read_records e = go (ill_formed index) e
+    where
+      go : (o : Option ℕ) → Ok n ≡ judged o (length (records index)) → n ≡ length (records index)
+      go (Some line) h = cc
+      go None h = cc
 
 -- what follows the last LF; and of the lines that an LF ends, one that is ill formed, and a record
-module _ {index rows : List ℕ} {n a : ℕ} (u : Upto index rows n a) {left : List (List ℕ)} (q : left ≡ ended (drop a index)) where
+module _ {index : List ℕ} {rows : List Row} {n a : ℕ} (u : Upto index rows n a) {left : List (List ℕ)} (q : left ≡ ended (drop a index)) where
   module _ (p : left ≡ []) where
     last : pieces (drop a index) ≡ part a (length index) index ∷ []
     last = ended_none index a u.within (sym q ∙ p)
 
     pub read_open : a < length index → Err (n + 1) ≡ index_read index
-    read_open h = read_bad index (omega arith) (last_open index (n + 1) a (length index) last h (omega arith) ∙ u.judged)
+    read_open h = read_bad index (last_open index (n + 1) a (length index) last h (omega arith) ∙ u.judged)
 
     module _ (h : length index ≤ a) where
       at-end : a ≡ length index
@@ -148,15 +155,11 @@ module _ {index rows : List ℕ} {n a : ℕ} (u : Upto index rows n a) {left : L
       none_left : records_from (pieces (drop a index)) ≡ []
       none_left = rw last (no_record (part a (length index) index) (omega (arith, part_length index a (length index))))
 
-      all_counted : n ≡ length (records index)
-      all_counted = rw (none_left, add-zero) at u.counted
-
       pub read_all : Ok n ≡ index_read index
-      read_all = read_good index (last_empty index (n + 1) a (length index) last at-end ∙ u.judged) all_counted
+      read_all = read_good index (last_empty index (n + 1) a (length index) last at-end ∙ u.judged) (rw (none_left, add-zero) at u.counted)
 
       pub told_all : n ≤ 64 → AreRows index rows
-      told_all few =
-          record { same = rw (← all_counted) (rw (none_left, append-nil) at (u.same few)); named = rw (← all_counted) (u.named few) }
+      told_all few = record { same = rw (none_left, append-nil) at (u.same few); named = u.named few }
 
   module _ {l : List ℕ} {more : List (List ℕ)} (p : left ≡ l ∷ more) where
     line : EndedAt index a l more
@@ -169,7 +172,7 @@ module _ {index rows : List ℕ} {n a : ℕ} (u : Upto index rows n a) {left : L
     lines_more = rw behind line.more
 
     pub read_ill : line_of l ≡ None → Err (n + 1) ≡ index_read index
-    read_ill h = read_bad index (omega arith) (sym (rw (← line.whole, h) at (next-piece index (n + 1) a (a + length l) line.piece)) ∙ u.judged)
+    read_ill h = read_bad index (sym (rw (← line.whole, h) at (next-piece index (n + 1) a (a + length l) line.piece)) ∙ u.judged)
 
     module _ {i : IndexLine} (h : line_of l ≡ Some i) where
       pub name_within : a + i.name ≤ length index
@@ -182,24 +185,25 @@ module _ {index rows : List ℕ} {n a : ℕ} (u : Upto index rows n a) {left : L
       unfolding records_from
       one_more = rw (line.piece, ← line.whole, h)
 
-      pub read_turn : {rows' : List ℕ} → rows' ≡ put_row rows n (row a (a + i.name) i.start i.size)
-          → Upto index rows' (n + 1) (a + (length l + 1))
-      read_turn {rows'} w =
-          let before : (j : ℕ) → j < n → row_at rows' j ≡ row_at rows j = λ j t. ap (λ (x : List ℕ). row_at x j) w ∙ row_before rows n (row a (a + i.name) i.start i.size) j t in
-          let here : n + 1 ≤ 64 → row_at rows' n ≡ row a (a + i.name) i.start i.size = λ few. ap (λ (x : List ℕ). row_at x n) w ∙ row_written rows n (row a (a + i.name) i.start i.size) (omega arith) u.whole in
+      abbrev here : Row
+      here = row a (a + i.name) i.start i.size
+
+      pub read_turn : {rows' : List Row} → (length rows < 64 → rows' ≡ rows ++ here ∷ []) → Upto index rows' (n + 1) (a + (length l + 1))
+      read_turn {rows'} push =
+          let added : n + 1 ≤ 64 → rows' ≡ rows ++ here ∷ [] = λ few. push (omega (arith, u.kept (omega arith))) in
           rw behind (record {
-            whole = ap length w ∙ rows_length rows n (row a (a + i.name) i.start i.size) ∙ u.whole;
             within = omega (arith, line.before);
             short = omega (arith, u.short);
             judged = sym (rw (← line.whole, h) at (next-piece index (n + 1) a (a + length l) line.piece)) ∙ u.judged;
             counted = omega (arith, u.counted, ap length one_more);
-            same = λ few.
-                rw (records_more index rows' n, records-same index rows' rows 0 n (λ j t. before j (omega arith)), ap (record_of index) (here few), append_assoc, ← name, ← one_more)
-                (u.same (omega arith));
-            named = λ few. record {
-              forward = below_more (λ j. (row_at rows' j).name ≤ (row_at rows' j).end) n (λ j t. row-forward (before j t) ((u.named (omega arith)).forward j t)) (row-forward (here few) (omega arith));
-              within = below_more (λ j. (row_at rows' j).end ≤ length index) n (λ j t. row_within (before j t) (length index) ((u.named (omega arith)).within j t)) (row_within (here few) (length index) name_within);
-            };
+            kept = λ few. ap length (added few) ∙ omega (arith, length-append rows (here ∷ []), u.kept (omega arith));
+            same = λ few. rw (added few, map-append, append_assoc, ← name, ← one_more) (u.same (omega arith));
+            named = λ few. rw (added few) (All-push (λ (r : Row). (r.name ≤ r.end) × (r.end ≤ length index)) rows here (u.named (omega arith)) (omega arith, name_within));
           })
+
+-- what a push tells
+pub push_ok : {T E : Type 0} (r : Result T E) (P : Type 0) → IsOk r → OnOk r P → P
+push_ok (Ok _) P h p = p
+push_ok (Err _) P h p = absurd (cc h)
 
 pub ruleset reading = (read_start, read_open, read_all, read_ill, name_within)

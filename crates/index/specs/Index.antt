@@ -1,5 +1,5 @@
 -- Document 01, "Records": names, the index and the files that it tells of.
-use Rattle.std.specs.Prelude.{ℕ, ◌+◌, Bool, true, false, cond, not, ◌&&◌, List, [], ◌∷◌, length, take, eqb, leb, Option, Some, None}
+use Rattle.std.specs.Prelude.{ℕ, ◌+◌, Bool, true, false, cond, not, ◌&&◌, List, [], ◌∷◌, length, take, get_or, eqb, leb, Option, Some, None}
 use Rattle.index.specs.declared.line.IndexLine.{IndexLine}
 use Rattle.text.specs.Bytes.{part, any}
 use Rattle.buffer.specs.Decimal.{number_of}
@@ -47,13 +47,13 @@ abbrev pub is_fields : Option IndexLine → Bool
 is_fields (Some p) = true
 is_fields None = false
 
--- "Index: a record a line, LF after each (else the last line is ill formed)": the first line that is ill formed, or 0; the lines count from n
-unfoldable pub ill_formed_from : ℕ → List (List ℕ) → ℕ
-ill_formed_from n [] = 0
-ill_formed_from n (l ∷ []) = cond (eqb (length l) 0) 0 n
-ill_formed_from n (l ∷ m ∷ ls) = cond (is_fields (line_of l)) (ill_formed_from (n + 1) (m ∷ ls)) n
+-- "Index: a record a line, LF after each (else the last line is ill formed)": the first line that is ill formed; the lines count from n
+unfoldable pub ill_formed_from : ℕ → List (List ℕ) → Option ℕ
+ill_formed_from n [] = None
+ill_formed_from n (l ∷ []) = cond (eqb (length l) 0) None (Some n)
+ill_formed_from n (l ∷ m ∷ ls) = cond (is_fields (line_of l)) (ill_formed_from (n + 1) (m ∷ ls)) (Some n)
 
-abbrev pub ill_formed : List ℕ → ℕ
+abbrev pub ill_formed : List ℕ → Option ℕ
 ill_formed index = ill_formed_from 1 (pieces index)
 
 -- a record: the name, and the part of the contents buffer by its start and its length
@@ -97,6 +97,10 @@ files_from k contents (r ∷ rs) = file_of k r.name (file_text contents r) ∷ f
 
 abbrev pub files : List ℕ → List ℕ → List File
 files index contents = files_from 1 contents (records index)
+
+-- file k of a set, counted from 0
+abbrev pub file_at : List File → ℕ → File
+file_at S k = get_or S k (file_of 0 [] [])
 
 -- the first of a list that has a name, counted from 0: names compare as bytes
 unfoldable pub first_named : {A : Type 0} → (A → List ℕ) → List ℕ → List A → Option ℕ

@@ -1,3 +1,4 @@
 pub mod Index
 pub mod Records
 pub mod Rows
+pub mod FileSets

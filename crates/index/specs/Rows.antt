@@ -1,49 +1,52 @@
--- The index once it is read: a row a record, of four numbers. Nothing here is document 01's: inner functions promise it, and the laws of `proofs/` tie it
--- to the records.
-use Rattle.std.specs.Prelude.{ℕ, zero, suc, ◌+◌, ◌*◌, ◌≤◌, ◌<◌, cond, ◌≡◌, List, [], ◌∷◌, length, get_or, eqb, ltb, Result, Ok, Err}
-use Rattle.std.proofs.lemmas.List.Edits.{sets}
+-- The index once it is read: a row a record. Nothing here is document 01's: inner functions promise it, and the laws of `proofs/` tie it to the records.
+use Rattle.std.specs.Prelude.{ℕ, ◌+◌, ◌-◌, ◌≤◌, ◌≡◌, List, length, map, All, Option, Some, None, Result, Ok, Err}
 use Rattle.text.specs.Bytes.{part}
-use Rattle.index.specs.Index.{Record, entry, ill_formed, records}
+use Rattle.index.specs.Index.{Record, File, entry, ill_formed, records, files_from}
 use Rattle.index.specs.declared.rows.Row.{Row}
 
 abbrev pub row : ℕ → ℕ → ℕ → ℕ → Row
 row a e s z = record { name = a; end = e; start = s; size = z }
 
--- row k, counted from 0
-abbrev pub row_at : List ℕ → ℕ → Row
-row_at rows k = row (get_or rows (4 * k) 0) (get_or rows (4 * k + 1) 0) (get_or rows (4 * k + 2) 0) (get_or rows (4 * k + 3) 0)
+-- no row
+abbrev pub zero_row : Row
+zero_row = row 0 0 0 0
 
--- the rows once row k is written, if it is one of 64
-abbrev pub put_row : List ℕ → ℕ → Row → List ℕ
-put_row rows k r = cond (ltb k 64) (sets rows (4 * k) (r.name ∷ r.end ∷ r.start ∷ r.size ∷ [])) rows
-
--- the record that a row tells of, and the records that n rows from row k on tell of
+-- the record that a row tells of, those of rows, and the files
 abbrev pub record_of : List ℕ → Row → Record
 record_of index r = entry (part r.name r.end index) r.start r.size
 
-unfoldable pub records_in : List ℕ → List ℕ → ℕ → ℕ → List Record
-records_in index rows k zero = []
-records_in index rows k (suc n) = record_of index (row_at rows k) ∷ records_in index rows (k + 1) n
+abbrev pub records_of : List ℕ → List Row → List Record
+records_of index rows = map (record_of index) rows
 
--- the names of the first n rows lie in the index
-pub record AreNamed (index rows : List ℕ) (n : ℕ) : Type 0 where
-  pub forward : (k : ℕ) → k < n → (row_at rows k).name ≤ (row_at rows k).end
-  pub within : (k : ℕ) → k < n → (row_at rows k).end ≤ length index
+abbrev pub files_in : List ℕ → List ℕ → List Row → List File
+files_in index contents rows = files_from 1 contents (records_of index rows)
+
+-- the names of rows lie in the index
+abbrev pub AreNamed : List ℕ → List Row → Type 0
+AreNamed index rows = All (λ r. (r.name ≤ r.end) × (r.end ≤ length index)) rows
+
+-- the names have at most 255 bytes
+abbrev pub AreShort : List Row → Type 0
+AreShort rows = All (λ r. r.end - r.name ≤ 255) rows
 
 -- their files lie in contents of so many bytes
-pub record AreWithin (room : ℕ) (rows : List ℕ) (n : ℕ) : Type 0 where
-  pub fits : (k : ℕ) → k < n → (row_at rows k).start + (row_at rows k).size ≤ room
+abbrev pub AreWithin : ℕ → List Row → Type 0
+AreWithin room rows = All (λ r. r.start + r.size ≤ room) rows
 
 -- the rows tell of the records of an index
-pub record AreRows (index rows : List ℕ) : Type 0 where
-  pub same : records_in index rows 0 (length (records index)) ≡ records index
-  pub named : AreNamed index rows (length (records index))
+pub record AreRows (index : List ℕ) (rows : List Row) : Type 0 where
+  pub same : records_of index rows ≡ records index
+  pub named : AreNamed index rows
 
 -- what reading an index gives: how many records it has, or its first line that is ill formed
+abbrev pub judged : Option ℕ → ℕ → Result ℕ ℕ
+judged (Some line) n = Err line
+judged None n = Ok n
+
 unfoldable pub index_read : List ℕ → Result ℕ ℕ
-index_read index = cond (eqb (ill_formed index) 0) (Ok (length (records index))) (Err (ill_formed index))
+index_read index = judged (ill_formed index) (length (records index))
 
 -- and the rows, which have room for 64 records
-abbrev pub Told : List ℕ → List ℕ → Result ℕ ℕ → Type 0
+abbrev pub Told : List ℕ → List Row → Result ℕ ℕ → Type 0
 Told index rows (Ok n) = n ≤ 64 → AreRows index rows
 Told index rows (Err n) = Unit {0}

@@ -14,7 +14,7 @@ pub struct IndexLine {
     pub size: usize,
 }
 
-// The number of a field.
+// The number of a field; None where it is ill formed.
 #[tactic(auto, using(crate::proofs::IndexLaws::needless_by), unfolding(crate::specs::Index::field_of))]
 fn field(s: &[u8]) -> Option<usize>
     ensures { result ≡ field_of s.now }
@@ -25,7 +25,7 @@ fn field(s: &[u8]) -> Option<usize>
     decimal::parse(s)
 }
 
-// Reads a line of the index.
+// Reads a line of the index; None where it is ill formed.
 #[tactic(auto, using(crate::proofs::IndexLaws::lines))]
 pub fn read_line(line: &[u8]) -> Option<IndexLine>
     ensures { result ≡ line_of line.now }

@@ -1,5 +1,5 @@
 -- Laws of what comes of a text before its lines are put, and of the running text behind which they are. Assumes nothing.
-use Rattle.std.specs.Prelude.{ok_or, Option, Some, None, Ok, Err}
+use Rattle.std.specs.Prelude.{Some, None, Ok, Err}
 use Prim.Native.Nat.{ℕ, ◌+◌, ◌-◌, ◌≤◌, ◌<◌}
 use native.Mathlib.Omega.{arith}
 use mathlib.Core.Path.{◌≡◌, sym, ap, ◌∙◌}
@@ -7,7 +7,7 @@ use mathlib.Core.Bool.{true, false}
 use mathlib.Core.List.{List, [], ◌++◌, map, append-nil}
 use borrow.Author.Tests.{le-leb, lt-leb}
 use lib.ListN.{length, take, drop, length-append}
-use lib.Seq.{sets-eq, take_at, length-take-le}
+use lib.Seq.{sets, sets-eq, take_at, length-take-le}
 use lib.IntN.{ℤ}
 use Rattle.answer.specs.Answer.{place}
 use Rattle.answer.specs.declared.Place.{Place}
@@ -26,12 +26,11 @@ use Rattle.shift.specs.Levels.{ShiftTo}
 use Rattle.shift.proofs.EndsLaws.{lines-some}
 use Rattle.shift.proofs.ShiftLaws.{kinds_told, past-none, past-some}
 use Rattle.embedding.specs.Embed.{embed_told}
-use Rattle.put.specs.Put.{source_text, part_of, Written, Wrote}
-use Rattle.insertion.specs.Insertion.{joined, stopped, read_inserted, inserted_of, Within}
+use Rattle.put.specs.Put.{source_text, part_of}
+use Rattle.insertion.specs.Insertion.{joined, stopped, inserted_of}
 use Rattle.putting.specs.Lines.{linked_line, linked_lines}
 use Rattle.insertion.specs.Plans.{embed_text, PlanOf}
 use Rattle.put.specs.declared.Source.{Source}
-use Rattle.put.specs.declared.Room.{Room}
 use Rattle.put.proofs.PutLaws.{source-part}
 
 -- lines embedded, by whether a heading goes past level 6
@@ -71,10 +70,10 @@ module _ {s : List ℕ} {a e : ℕ} (ends : AreEnds s a e) (target : ℕ) where
 
     pub plan_lines : (z : ℤ) → ShiftTo (part a e s) target (Ok z) → PlanOf s target (Ok (Some (record { start = a; end = e; shift = z })))
     plan_lines z h = (
-      (ends.order, (ends.within, h.1.0)),
+      (ends.order, ends.within),
       λ host name d.
           text-is host name d
-          ∙ embed_good host name target d (pieces (part a e s)) h.1.1
+          ∙ embed_good host name target d (pieces (part a e s)) h.1
           ∙ ap (λ (y : ℤ). good (map (linked_line host (parent_dir name) y) (told_from walk_begin (pieces (part a e s))))) (sym h.0),
     )
 
@@ -87,26 +86,21 @@ module _ (p : Place) (w : List ℕ) where
   pub joined_stopped : (L : ℕ) (t : List ℕ) (x : Part (List (List ℕ))) (y : Refusal) (xs : List Refusal) → x ≡ flawed y xs → stopped y ≡ inserted_of L t p x
   joined_stopped L t x y xs e = rw e
 
-  module _ (room : Room) (x : Part (List (List ℕ))) (es : List (List ℕ)) (e : x ≡ good es) (t : List ℕ) (text-is : t ≡ led es) (fits : room.limit ≤ length w) where
-    long : room.at ≤ room.limit → length (take room.at w ++ led es) ≡ room.at + length t
-    long h = length-append (take room.at w) (led es) ∙ rw (← text-is) (ap (λ (k : ℕ). k + length t) (length-take-le room.at w (omega arith)))
+  module _ (at limit : ℕ) (x : Part (List (List ℕ))) (es : List (List ℕ)) (e : x ≡ good es) (t : List ℕ) (text-is : t ≡ led es) (below : at ≤ limit) (fits : limit ≤ length w) where
+    long : length (take at w ++ led es) ≡ at + length t
+    long = length-append (take at w) (led es) ∙ rw (← text-is) (ap (λ (k : ℕ). k + length t) (length-take-le at w (omega arith)))
 
-    over : room.at ≤ room.limit → room.limit < room.at + length t → stopped (TextLimit p) ≡ inserted_of room.limit (take room.at w) p x
-    over h k = rw (e, lt-leb (length (take room.at w ++ led es)) room.limit (omega (arith, long h)))
+    pub joined_over : limit < at + length t → stopped (TextLimit p) ≡ inserted_of limit (take at w) p x
+    joined_over k = rw (e, lt-leb (length (take at w ++ led es)) limit (omega (arith, long)))
 
-    to : (v : List ℕ) (n : ℕ) → Written room t w v n → joined (take n v) ≡ inserted_of room.limit (take room.at w) p x
-    to v n h =
-        let a : List ℕ = take room.at w ++ led es in
-        let l : length a ≡ n = long (omega (arith, h.place, h.below)) ∙ sym h.place in
-        let r : List ℕ = drop (room.at + length t) w in
+    pub joined_put : (v : List ℕ) (n : ℕ) → n ≡ at + length t → n ≤ limit → v ≡ sets w at t → joined (take n v) ≡ inserted_of limit (take at w) p x
+    joined_put v n k h wrote =
+        let a : List ℕ = take at w ++ led es in
+        let l : length a ≡ n = long ∙ sym k in
+        let r : List ℕ = drop (at + length t) w in
         let q : take n v ≡ a =
-        ap (take n) (h.wrote ∙ sets-eq t w room.at (omega (arith, h.place, h.below)) ∙ ap (λ (y : List ℕ). (take room.at w ++ y) ++ r) text-is) ∙ take_at a r n l in
-        rw (e, le-leb (length a) room.limit (omega (arith, h.below)), q)
-
-    pub joined_put : room.at ≤ room.limit → (v : List ℕ) (r : Option ℕ) → Wrote room t w v r
-        → (read_inserted (ok_or r (TextLimit p)) v ≡ inserted_of room.limit (take room.at w) p x) × Within (ok_or r (TextLimit p)) room.limit
-    joined_put h v (Some n) k = (to v n k, k.below)
-    joined_put h v None k = (over h k, tt)
+        ap (take n) (wrote ∙ sets-eq t w at (omega arith) ∙ ap (λ (y : List ℕ). (take at w ++ y) ++ r) text-is) ∙ take_at a r n l in
+        rw (e, le-leb (length a) limit (omega arith), q)
 
 -- the lines that are put, by the place where they stand in the source
 pub lines-put : (host name dir c w : List ℕ) (y z : ℤ) (l source : Source) (a e : ℕ) → dir ≡ parent_dir name → y ≡ z → l ≡ part_of source a e → source.start + e ≤ source.end

@@ -9,8 +9,10 @@ ghost use Rattle.put.specs.Put.{Inside, source_text};
 ghost use Rattle.insertion.specs.Insertion.{read_inserted, inserted_of, Within};
 
 use answer::{Place, Refusal};
+use link::target::Embedding;
 use plan::Plan;
-use put::{Room, Source};
+use put::Source;
+use put::running::RunningText;
 
 pub mod plan;
 
@@ -24,7 +26,7 @@ pub struct Insertion {
     pub len: usize,
 }
 
-// Puts the lines of a text behind the running text at the front of the work buffer, as they become in a host, where the text's file has a name.
+// Puts the lines of a text behind the running text at the front of the work buffer, as they become in a host, where the text's file has a name. Answers how long the running text is then.
 pub fn insert(
     contents: &[u8],
     source: Source,
@@ -48,13 +50,16 @@ pub fn insert(
             }));
         }
     };
-    let lines = put::part_of(source, start, end);
-    let n = path::parent_dir(name);
-    let room = Room {
+    let lines = source.part(start, end);
+    let dir = &name[..path::parent_dir(name)];
+    let mut running = RunningText {
+        contents,
+        work,
         at: at.len,
         limit: at.limit,
     };
-    putting::put_lines(contents, lines, shift, &name[..n], host, room, work).ok_or(
-        Refusal::TextLimit(at.opener),
-    )
+    match putting::put_lines(lines, shift, Embedding { dir, host }, &mut running) {
+        Some(()) => Ok(running.at),
+        None => Err(Refusal::TextLimit(at.opener)),
+    }
 }

@@ -1,90 +1,63 @@
 #![tactic(auto)]
 
 // A member behind the text so far, with what joins it: 16, then its lines, then 17.
-ghost use Rattle.std.specs.Prelude.{◌++◌, ◌≡◌, ◌≤◌, ◌<◌, length, take};
-ghost use Rattle.std.specs.Int.Signed.{mag};
-ghost use Rattle.put.specs.Put.{source_text, Wrote};
-ghost use Rattle.members.specs.Members.{member_at, text_source, prepared_in};
+ghost use Rattle.std.specs.Prelude.{◌++◌, ◌≡◌, ◌≤◌, Contains};
+ghost use Rattle.put.specs.Running.{Ran, text_of};
+ghost use Rattle.members.specs.Members.{text_source};
 ghost use Rattle.emission.specs.Emission.{emitted_text};
-ghost use Rattle.joining.specs.Joining.{rule_before, emit_in, target_in, put_answer, CanEmit, AddedBehind};
+ghost use Rattle.joining.specs.Joining.{rule_before, emit_of, target_of, prepared_of, put_answer, Emits, AddedBehind};
 
 use answer::{Place, Refusal};
-use put::Room;
+use members::{Assembly, Member};
+use put::running::RunningText;
 
-// What joins member i to the text before it: nothing before the first.
-fn put_rule(i: usize, room: Room, work: &mut [u8]) -> Option<usize>
-    requires { (room.at ≤ room.limit) × (room.limit ≤ length work.old) }
-    ensures { Wrote room (rule_before i) work.old work.new result }
-{
-    if i == 0 {
-        return Some(room.at);
-    }
-    put::put_bytes(b"\n\n---\n\n", room, work)
-}
-
-// Member i with its headings moved, behind the text so far and what joins it.
+// A member with its headings moved, with i members before it, behind the text so far and what joins it: nothing where i is 0. None: it would go over the limit.
 fn put_behind(
-    index: &[u8],
-    contents: &[u8],
-    url: &[u8],
-    set: &[usize; 704],
-    count: usize,
+    assembly: Assembly,
+    member: Member,
     i: usize,
     shift: i32,
-    room: Room,
-    work: &mut [u8],
-) -> Option<usize>
-    requires { CanEmit index.now contents.now set.now count room.limit work.old × ((i < count) × ((mag shift ≤ 7) × (room.at ≤ room.limit))) }
-    ensures { Wrote room (rule_before i ++ emitted_text (target_in index.now contents.now work.old url.now set.now count (member_at set.now i)) shift
-        (source_text (text_source (member_at set.now i)) contents.now work.old)) work.old work.new result }
+    running: &mut RunningText,
+) -> Option<()>
+    requires can { Emits running.old assembly }
+    requires among { Contains assembly.members.now member × (running.old.at ≤ running.old.limit) }
+    ensures same_reference { running.new.work.ghost_name ≡ running.old.work.ghost_name }
+    ensures ran { Ran (rule_before i ++ emitted_text (target_of running.old assembly.entry member) shift (text_of running.old (text_source member))) running.old running.new result }
 {
-    let at = put_rule(i, room, work)?;
-    let member = members::member_at(set, i);
-    let name = &index[member.name.start..member.name.end];
-    emission::put_lines(
-        index,
-        contents,
-        url,
-        set,
-        count,
-        members::text_of(member),
-        &name[..path::parent_dir(name)],
-        shift,
-        Room { at, ..room },
-        work,
-    )
+    running.put_between(i, b"\n\n---\n\n")?;
+    let name = &assembly.index[member.name.start..member.name.end];
+    let dir = &name[..path::parent_dir(name)];
+    emission::put_lines(assembly, member.text(), dir, shift, running)
 }
 
-// How long the text is now, or 17 at a member.
-pub fn answer_of(put: Option<usize>, file: usize) -> Result<usize, Refusal>
+// That a text was put, or 17 at a file.
+pub fn answer_of(put: Option<()>, file: usize) -> Result<(), Refusal>
     ensures { result ≡ put_answer file put }
 {
     put.ok_or(Refusal::TextLimit(Place { file, line: 0 }))
 }
 
-// Member i behind the text so far: 16, then the member, then 17.
+// A member of an assembly, with i members before it, behind the text so far: 16, then the member, then 17.
 pub fn emit(
-    index: &[u8],
-    contents: &[u8],
-    url: &[u8],
-    set: &[usize; 704],
-    count: usize,
+    assembly: Assembly,
+    member: Member,
     i: usize,
-    room: Room,
-    work: &mut [u8],
-) -> Result<usize, Refusal>
-    requires { CanEmit index.now contents.now set.now count room.limit work.old × ((i < count) × (room.at ≤ room.limit)) }
-    ensures { AddedBehind room.limit (emit_in index.now contents.now work.old url.now set.now count)
-        (prepared_in index.now contents.now work.old (member_at set.now i)) i (take room.at work.old) work.old work.new result }
+    running: &mut RunningText,
+) -> Result<(), Refusal>
+    requires can { Emits running.old assembly }
+    requires among { Contains assembly.members.now member × (running.old.at ≤ running.old.limit) }
+    ensures same_reference { running.new.work.ghost_name ≡ running.old.work.ghost_name }
+    ensures added { AddedBehind (emit_of running.old assembly.entry) (prepared_of running.old assembly.entry member) i running.old running.new result }
 {
-    let member = members::member_at(set, i);
-    let file = member.file;
-    let text = members::text_of(member).bytes(contents, work);
+    let text = running.bytes(member.text());
     match outline::shift_below(text, member.outline.levels) {
         Ok(shift) => {
-            let put = put_behind(index, contents, url, set, count, i, shift, room, work);
-            answer_of(put, file)
+            let put = put_behind(assembly, member, i, shift, running);
+            answer_of(put, member.file)
         }
-        Err(line) => Err(Refusal::HeadingLevel(Place { file, line })),
+        Err(line) => Err(Refusal::HeadingLevel(Place {
+            file: member.file,
+            line,
+        })),
     }
 }

@@ -5,7 +5,7 @@ use Rattle.text.specs.Bytes.{bit}
 use Rattle.heading.specs.Walk.{step_kind, step_after}
 use Rattle.heading.specs.Level.{shift_of, moved_to, heading_line}
 use Rattle.fence.specs.declared.Fence.{Fence}
-use Rattle.fence.specs.declared.Fence.TheVariants.{Outside, Ticks, Tildes}
+use Rattle.fence.specs.declared.Fence.TheVariants.{Ticks, Tildes}
 use Rattle.heading.specs.declared.walk.LineKind.{LineKind}
 use Rattle.heading.specs.declared.walk.LineKind.TheVariants.{Quoted, Heading, Other}
 use Rattle.heading.specs.declared.walk.WalkState.{WalkState}
@@ -19,13 +19,13 @@ abbrev pub one : ℕ → List ℕ
 one n = n ∷ 0 ∷ 0 ∷ 0 ∷ 0 ∷ 0 ∷ []
 
 -- fences: 1 ticks, 2 tildes, any other number outside
-abbrev pub fence_of : ℕ → Fence
-fence_of n = cond (eqb n 1) Ticks (cond (eqb n 2) Tildes Outside)
+abbrev pub fence_of : ℕ → Option Fence
+fence_of n = cond (eqb n 1) (Some Ticks) (cond (eqb n 2) (Some Tildes) None)
 
-abbrev pub fence_number : Fence → ℕ
-fence_number Outside = 0
-fence_number Ticks = 1
-fence_number Tildes = 2
+abbrev pub fence_number : Option Fence → ℕ
+fence_number None = 0
+fence_number (Some Ticks) = 1
+fence_number (Some Tildes) = 2
 
 abbrev pub state_of : ℕ → ℕ → WalkState
 state_of n comment = record { fence = fence_of n; comment = is_on comment }

@@ -6,13 +6,13 @@ use fence::Fence;
 use heading::level;
 use heading::walk::{LineKind, WalkState};
 
-fn fence(n: u64) -> Fence
+fn fence(n: u64) -> Option<Fence>
     ensures { result ≡ fence_of n }
 {
     match n {
-        1 => Fence::Ticks,
-        2 => Fence::Tildes,
-        _ => Fence::Outside,
+        1 => Some(Fence::Ticks),
+        2 => Some(Fence::Tildes),
+        _ => None,
     }
 }
 
@@ -25,13 +25,13 @@ pub fn state(n: u64, comment: u64) -> WalkState
     }
 }
 
-fn of_fence(fence: Fence) -> u64
+fn of_fence(fence: Option<Fence>) -> u64
     ensures { result ≡ fence_number fence }
 {
     match fence {
-        Fence::Outside => 0,
-        Fence::Ticks => 1,
-        Fence::Tildes => 2,
+        None => 0,
+        Some(Fence::Ticks) => 1,
+        Some(Fence::Tildes) => 2,
     }
 }
 

@@ -5,6 +5,8 @@ ghost use Rattle.leaf.specs.Link.{check_numbers};
 
 use fileset::check;
 use fileset::check::Sizes;
+use fileset::members::Records;
+use index::rows::Rows;
 
 // The refusals of a fill, or six zeros.
 #[unsafe(no_mangle)]
@@ -25,9 +27,9 @@ pub extern "C" fn leaf_check_fill(
         output: out as usize,
         work: work as usize,
     };
-    let mut rows = [0usize; 256];
+    let mut rows = Rows::new();
     let checked = check::check_fill(index, contents, name, text, sizes, &mut rows);
-    *answer = leaf::checks::of_checked(checked);
+    *answer = leaf::checks::of_checked(checked.map(|_| ()));
 }
 
 // The refusals of an assembly or a book, or six zeros.
@@ -49,8 +51,8 @@ pub extern "C" fn leaf_check_book(
         output: out as usize,
         work: work as usize,
     };
-    let mut rows = [0usize; 256];
-    let mut members = [0usize; 64];
+    let mut rows = Rows::new();
+    let mut members = Records::new();
     let checked = check::check_book(index, contents, list, url, sizes, &mut rows, &mut members);
-    *answer = leaf::checks::of_checked(checked);
+    *answer = leaf::checks::of_checked(checked.map(|_| ()));
 }

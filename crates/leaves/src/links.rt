@@ -8,7 +8,8 @@ ghost use Rattle.leaf.specs.Leaf.{one};
 ghost use Rattle.leaf.specs.Link.{written, NextAnswer, SelfAnswer, target_numbers};
 
 use leaf::number;
-use link::{links, target};
+use link::links;
+use link::target::{self, Embedding};
 use text::bytes;
 
 // The first link of a line from a place on: 1 and where its target starts and ends, or 0.
@@ -67,7 +68,7 @@ pub extern "C" fn leaf_target(target: &[u8], answer: &mut [u64; 6])
 pub extern "C" fn leaf_self(target: &[u8], dir: &[u8], host: &[u8], answer: &mut [u64; 6])
     ensures { SelfAnswer host.now dir.now target.now answer.new }
 {
-    let n = target::anchor_self(target, dir, host);
+    let n = target::anchor_self(target, Embedding { dir, host });
     *answer = number::one(n as u64);
 }
 

@@ -5,7 +5,7 @@ ghost use Rattle.link.specs.Links.{FoundLink};
 use text::part::Part;
 use text::{bytes, pattern};
 
-// The first link from a place on.
+// The first link from a place on; None where there is none.
 pub fn next_link(line: &[u8], from: usize) -> Option<Part>
     requires { from ≤ length line.now }
     ensures { FoundLink line.now from result }

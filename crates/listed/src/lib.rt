@@ -2,28 +2,21 @@
 
 // The members that list lines name, each as it stands in the contents.
 ghost use Rattle.std.specs.Prelude.{◌≡◌, ◌+◌, ◌≤◌, ◌<◌, length};
-ghost use Rattle.listed.specs.Files.{no_outline, member_of, AreListed, AreFiles};
+ghost use Rattle.index.specs.FileSets.{files_of};
+ghost use Rattle.listed.specs.Files.{no_outline, member_of, line_members, AreListed};
 
+use index::file_set::FileSet;
 use index::rows::Row;
-use members::Member;
+use members::{Member, Members};
 use outline::Outline;
 use put::Source;
-use shift::level::Levels;
 use text::part::Part;
 
 // What is known before a member is prepared.
 pub fn no_outline() -> Outline
     ensures { result ≡ no_outline }
 {
-    let levels = Levels {
-        top: None,
-        deepest: 0,
-    };
-    Outline {
-        end: 0,
-        title: Part { start: 0, end: 0 },
-        levels,
-    }
+    Outline::default()
 }
 
 // The member that is the file of a record, counted from 0, by its row.
@@ -46,16 +39,15 @@ fn member_of(k: usize, row: Row) -> Member
     }
 }
 
-// Writes the member of each list line.
-pub fn put_files(rows: &[usize; 256], lines: &[usize; 64], count: usize, set: &mut [usize; 704])
-    requires { (length set.old ≡ 704) × AreListed rows.now lines.now count }
-    ensures { AreFiles rows.now lines.now set.new count }
+// The member of each list line, in the list's order.
+#[tactic(auto, using(crate::proofs::FilesLaws::listing))]
+pub fn members_of(files: FileSet, lines: &[usize]) -> Members
+    requires { AreListed (length (files_of files)) lines.now }
+    ensures { result.items ≡ line_members files.entry.rows.now lines.now }
 {
-    let mut i = 0;
-    while i < count {
-        let k = lines[i];
-        let member = member_of(k, index::rows::row_at(rows, k));
-        members::put_member(set, i, member);
-        i += 1;
+    let mut members = Members::new();
+    for &k in lines {
+        members.push(member_of(k, files.rows[k]));
     }
+    members
 }

@@ -12,10 +12,10 @@ use Rattle.buffer.proofs.BufferLaws.{sets_append}
 use Rattle.scan.specs.Scan.{scan}
 use Rattle.rows.specs.Row.{span_rows, region_rows, problem_rows}
 use Rattle.rows.specs.Sheet.{TOP, add, Sheet, sheet, write, written, behind}
-use Rattle.event_log.specs.Log.{unpacked}
-use Rattle.event_log.specs.Sink.{Sink, sink, put_all}
+use Rattle.event_log.specs.Log.{Log, unpacked}
+use Rattle.event_log.specs.Sink.{Held, held, put_all}
 use Rattle.rows.specs.declared.Places.{Places}
-use Rattle.event_log.specs.declared.sink.To.{To}
+use Rattle.event_log.specs.declared.sink.Sink.{Sink}
 use Rattle.rows.proofs.SheetLaws.{places, moved, rows}
 use Rattle.event_log.proofs.SinkLaws.{all_sheet, all_rows, all_within}
 use Rattle.listing.specs.Listing.{listing}
@@ -68,25 +68,25 @@ sum_small a b c n x y z e p q r h = (omega arith, (omega arith, (omega arith, om
 abbrev pub zero_places : Places
 zero_places = places 0 0 0
 
-abbrev pub from : List ℕ → Sink
-from log = sink (record { at = zero_places; kept = record { words = 0; whole = true } }) log []
+abbrev pub from : List ℕ → Held
+from log = record { sheet = sheet zero_places []; log = record { buffer = log; words = 0; whole = true } }
 
 -- a scan that was put into a log and an empty buffer, to end
-module _ (s log words none : List ℕ) (end : To) (e : sink end words none ≡ put_all (scan s) (from log)) where
+module _ (s log : List ℕ) (end : Sink) (e : held end ≡ put_all (scan s) (from log)) where
   counted : end.at ≡ places (add 0 (length (span_rows (scan s)))) (add 0 (length (region_rows (scan s)))) (add 0 (length (problem_rows (scan s))))
   counted =
-      ap (λ (t : Sink). t.sheet.at) e
+      ap (λ (t : Held). t.sheet.at) e
       ∙ ap (λ (t : Sheet). t.at) (all_sheet (scan s) (from log))
       ∙ moved (scan s) 0 0 0 [] zero-le zero-le zero-le
 
-  pub logged : end.kept.whole ≡ true → (t : Sheet) → written (map unpacked (take end.kept.words words)) t ≡ written (scan s) t
+  pub logged : end.kept.whole ≡ true → (t : Sheet) → written (map unpacked (take end.kept.words end.log.now)) t ≡ written (scan s) t
   unfolding written
   logged h t =
-      ap (λ (u : Sink). written (map unpacked (take u.log.words u.log.buffer)) t) e
-      ∙ all_rows (scan s) (from log) t (ap (λ (u : Sink). u.log.whole) (sym e) ∙ h)
+      ap (λ (u : Held). written (map unpacked (take u.log.words u.log.buffer)) t) e
+      ∙ all_rows (scan s) (from log) t (ap (λ (u : Held). u.log.whole) (sym e) ∙ h)
 
-  pub within : end.kept.words ≤ length words
-  within = rw (← ap (λ (u : Sink). u.log.words) e, ← ap (λ (u : Sink). u.log.buffer) e) at (all_within (scan s) (from log) zero-le)
+  pub within : end.kept.words ≤ length end.log.now
+  within = rw (← ap (λ (u : Held). u.log.words) e, ← ap (λ (u : Held). u.log.buffer) e) at (all_within (scan s) (from log) zero-le)
 
   -- n is the count of the listing's bytes
   module _ (out : List ℕ) (n : ℕ) (en : n ≡ add (behind end.at).problems end.at.problems) (fo : length out < 2 ^ 63) where
@@ -115,14 +115,14 @@ module _ (s log words none : List ℕ) (end : To) (e : sink end words none ≡ p
         listed s out end.at.spans (add end.at.spans end.at.regions) (omega (arith, exact h)) (omega arith) k.0 (omega (arith, k))
 
     pub written-log : n ≤ length out → end.kept.whole ≡ true
-        → (written (map unpacked (take end.kept.words words)) (sheet (behind end.at) out)).bytes ≡ listing s ++ drop (length (listing s)) out
+        → (written (map unpacked (take end.kept.words end.log.now)) (sheet (behind end.at) out)).bytes ≡ listing s ++ drop (length (listing s)) out
     written-log h w = ap (λ (t : Sheet). t.bytes) (logged w (sheet (behind end.at) out)) ∙ written_out h
 
-    pub written_again : (log₁ : List ℕ) {more : To} {log₂ out₁ : List ℕ} → n ≤ length out
-        → sink more log₂ out₁ ≡ put_all (scan s) (sink (record { at = behind end.at; kept = end.kept }) log₁ out) → out₁ ≡ listing s ++ drop (length (listing s)) out
-    written_again l h q =
-        ap (λ (t : Sink). t.sheet.bytes) q
-        ∙ ap (λ (t : Sheet). t.bytes) (all_sheet (scan s) (sink (record { at = behind end.at; kept = end.kept }) l out))
+    pub written_again : (l : Log) (more : Sink) → n ≤ length out
+        → held more ≡ put_all (scan s) (record { sheet = sheet (behind end.at) out; log = l }) → more.out.now ≡ listing s ++ drop (length (listing s)) out
+    written_again l more h q =
+        ap (λ (t : Held). t.sheet.bytes) q
+        ∙ ap (λ (t : Sheet). t.bytes) (all_sheet (scan s) (record { sheet = sheet (behind end.at) out; log = l }))
         ∙ written_out h
 
 -- what the proof of `put_logged` applies

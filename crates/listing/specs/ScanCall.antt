@@ -1,5 +1,5 @@
 -- The scan call: what it answers, and the output after it.
-use Rattle.std.specs.Prelude.{ℕ, cond, List, ◌++◌, length, drop, eqb, leb, Result, Ok, Err}
+use Rattle.std.specs.Prelude.{ℕ, cond, List, ◌++◌, length, drop, leb, Option, Some, None, Result, Ok, Err}
 use Rattle.text.specs.Ascii.{wide_line}
 use Rattle.answer.specs.Answer.{place}
 use Rattle.answer.specs.declared.Refusal.TheVariants.{WideByte, TextLimit}
@@ -9,12 +9,15 @@ use Rattle.answer.specs.declared.Answer.TheVariants.{Accepted, NoRegion}
 use Rattle.listing.specs.Listing.{listing}
 
 -- "Scan refuses by 5, or by 17 at line 0 if the output is shorter than the listing": the answer for a text s and an output of so many bytes
+abbrev pub unless_wide : Option ℕ → Result Answer Refusal → Result Answer Refusal
+unless_wide (Some line) a = Err (WideByte (place 0 line))
+unless_wide None a = a
+
 unfoldable pub answer_of : ℕ → List ℕ → Result Answer Refusal
 answer_of room s =
-    cond (eqb (wide_line 1 s) 0)
+    unless_wide (wide_line 1 s)
     (cond (leb (length (listing s)) room) (Ok (Accepted (length (listing s)) 0))
     (Err (TextLimit (place 0 0))))
-    (Err (WideByte (place 0 (wide_line 1 s))))
 
 -- "the output begins with the text or listing and its other bytes are unchanged"; a refusal leaves "the output unchanged"
 unfoldable pub output_of : Result Answer Refusal → List ℕ → List ℕ → List ℕ

@@ -14,9 +14,8 @@ pub fn scan(text: &[u8], out: &mut [u8]) -> Result<Answer, Refusal>
     ensures value { result ≡ answer_of (length out.old) text.now }
     ensures out_after { out.new ≡ output_of result text.now out.old }
 {
-    let n = text::ascii::wide_line(text);
-    if n != 0 {
-        return Err(Refusal::WideByte(Place { file: 0, line: n }));
+    if let Some(line) = text::ascii::wide_line(text) {
+        return Err(Refusal::WideByte(Place { file: 0, line }));
     }
     listing::list(text, out)
 }

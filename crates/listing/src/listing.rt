@@ -7,7 +7,7 @@ ghost use Rattle.event_log.specs.Log.{unpacked};
 ghost use Rattle.listing.specs.ScanCall.{answer_of, output_of};
 
 use answer::{Answer, Place, Refusal};
-use event_log::sink::To;
+use event_log::sink::Sink;
 use event_log::word;
 use event_log::word::Kept;
 use rows::Places;
@@ -36,24 +36,27 @@ fn put_logged(words: &[usize], out: &mut [u8], at: Places)
 
 // Writes the listing of a text without wide bytes, if it fits, with a log lent for what the scan finds.
 fn list_with(s: &[u8], log: &mut [usize], out: &mut [u8]) -> Result<Answer, Refusal>
-    requires { wide_line 1 s.now ≡ 0 }
+    requires { wide_line 1 s.now ≡ None }
     ensures value { result ≡ answer_of (length out.old) s.now }
     ensures out_after { out.new ≡ output_of result s.now out.old }
 {
     let mut none = [0u8; 0];
-    let at = Places {
-        spans: 0,
-        regions: 0,
-        problems: 0,
+    let mut measure = Sink {
+        log,
+        out: &mut none,
+        at: Places {
+            spans: 0,
+            regions: 0,
+            problems: 0,
+        },
+        kept: Kept {
+            words: 0,
+            whole: true,
+        },
     };
-    let kept = Kept {
-        words: 0,
-        whole: true,
-    };
-    let To {
-        at: counted,
-        kept: found,
-    } = events::put_scan(s, log, &mut none, To { at, kept });
+    events::put_scan(s, &mut measure);
+    let counted = measure.at;
+    let found = measure.kept;
     let places = behind(counted);
     let length = rows::add(places.problems, counted.problems);
     if out.len() < length {
@@ -64,21 +67,19 @@ fn list_with(s: &[u8], log: &mut [usize], out: &mut [u8]) -> Result<Answer, Refu
         return Ok(Answer::Accepted { length, files: 0 });
     }
     let mut no_log = [0usize; 0];
-    events::put_scan(
-        s,
-        &mut no_log,
+    let mut sink = Sink {
+        log: &mut no_log,
         out,
-        To {
-            at: places,
-            kept: found,
-        },
-    );
+        at: places,
+        kept: found,
+    };
+    events::put_scan(s, &mut sink);
     Ok(Answer::Accepted { length, files: 0 })
 }
 
 // Writes the listing of a text without wide bytes, if it fits. A short text is not worth the clearing of a long log.
 pub fn list(s: &[u8], out: &mut [u8]) -> Result<Answer, Refusal>
-    requires { wide_line 1 s.now ≡ 0 }
+    requires { wide_line 1 s.now ≡ None }
     ensures value { result ≡ answer_of (length out.old) s.now }
     ensures out_after { out.new ≡ output_of result s.now out.old }
 {

@@ -1,58 +1,58 @@
--- The loop over the members of a set: those that are made, and those that still stand in the contents. Assumes nothing.
-use Prim.Native.Nat.{ℕ, zero, suc, ◌+◌, ◌-◌, ◌*◌, ◌≤◌, ◌<◌}
-use native.Mathlib.Nat.{sub-zero, suc-mul, mul-le-mul_right}
+-- The loop over members: those that are made, and those that still stand in the contents. Assumes nothing.
+use Rattle.std.specs.Prelude.{All}
+use Prim.Native.Nat.{ℕ, suc, ◌+◌, ◌-◌, ◌*◌, ◌≤◌, ◌<◌}
+use native.Mathlib.Nat.{suc-mul, mul-le-mul_right}
 use native.Mathlib.Numerals.{add-one}
 use native.Mathlib.Omega.{arith}
 use mathlib.Core.Path.{◌≡◌, refl, sym, ◌∙◌, ap}
-use mathlib.Core.Bool.{Bool, true, false}
+use mathlib.Core.Bool.{false, true}
 use mathlib.Core.List.{List, [], ◌∷◌, ◌++◌, map, map-append, append-nil}
-use lib.Dec.{eqb}
-use lib.ListN.{length, take, drop}
-use lib.Seq.{sets}
-use borrow.Author.Tests.{eqb-true, eqb-false}
+use lib.ListN.{length, take, drop, set, get_or, get_or-map}
+use lib.Seq.{map-set_same}
+use Rattle.std.proofs.lemmas.List.{length-map, length-set, drop_more, drop-drop, drop_all, drop-set-lt, take_all, take_more, take_more_set, get_or-drop, get_or_default}
+use Rattle.std.proofs.lemmas.List.Elements.{All-get_or, All-map, All-set, All-take, All-weaker}
 use Rattle.answer.specs.declared.Refusal.{Refusal}
-use Rattle.text.specs.Bytes.{part}
 use Rattle.index.specs.Index.{File, file_of}
+use Rattle.index.specs.FileSets.{files_of}
+use Rattle.index.specs.declared.file_set.FileSet.{FileSet}
 use Rattle.walk.specs.Steps.{given, refused, judge}
-use Rattle.walk.specs.Outcome.{Outcome, text, noRegion, refusal}
+use Rattle.walk.specs.Outcome.{text, noRegion, refusal}
 use Rattle.chains.specs.Chains.{no_marks, start_at}
 use Rattle.chains.specs.Fill.{walk, filled}
 use Rattle.chains.proofs.FillLaws.{filled-plain}
 use Rattle.put.specs.Put.{source_text, Inside}
-use Rattle.members.specs.Members.{member_at, numbers_of, name_of, file_in, files_from, Lies, AllLie}
+use Rattle.members.specs.Members.{name_of, file_in, all_files, Lies, Agree, OneName, AllLie}
 use Rattle.members.specs.declared.Member.{Member}
-use Rattle.members.proofs.MembersLaws.{put-length, member_put_same, member_put_other, files_more, files-at, files-end, files-up, files_set, source_up, inside_more}
+use Rattle.members.proofs.MembersLaws.{map-each, source_up, inside_more}
 use Rattle.book.specs.Book.{with_texts}
 use Rattle.book.specs.BookWalk.{walk_all}
-use Rattle.made.specs.Made.{slot, placed_at, CanMake, judged_all, texts_of, AreMade}
+use Rattle.made.specs.Made.{slot, placed_at, CanFill, CanMake, judged_all, texts_of, AreMade}
 use Rattle.made.proofs.JudgeLaws.{all_more, all_stop, behind, behind-none, behind_more, filled-given, filled-stopped}
 
--- members that differ at most in where their texts lie and in their outlines
-pub record SameName (m m' : Member) : Type 0 where
-  pub name : m.name ≡ m'.name
-  pub file : m.file ≡ m'.file
-
--- the first i members are made, with so many files taken in; the others are as they were
-pub record Making (B L : ℕ) (index contents : List ℕ) (S : List File) (count : ℕ) (w₀ set₀ w set : List ℕ) (i used : ℕ) : Type 0 where
-  pub few : i ≤ count
-  pub kept : length w ≡ length w₀
-  pub whole : length set ≡ 704
-  pub lie : AllLie index (length contents) L (slot L i) set count
-  pub same : (j : ℕ) → SameName (member_at set j) (member_at set₀ j)
-  pub later : (j : ℕ) → i ≤ j → member_at set j ≡ member_at set₀ j
-  pub judged : judged_all B L S (files_from index contents w₀ set₀ 0 count)
-      ≡ behind (texts_of (files_from index contents w set 0 i)) (judge B L used (walk_all (map (start_at S) (files_from index contents w₀ set₀ i (count - i)))))
-
--- member i has the text t now, and the others are as they were
-pub record Changed (L contents stop : ℕ) (set set' : List ℕ) (i : ℕ) : Type 0 where
-  pub whole : length set' ≡ 704
-  pub others : (j : ℕ) → (j ≡ i → ⊥) → member_at set' j ≡ member_at set j
-  pub same : SameName (member_at set' i) (member_at set i)
-  pub inside : Inside (member_at set' i).source L contents stop
+-- a member but for where its text lies and its outline
+abbrev pub unplaced : Member → Member
+unplaced m = placed_at m (record { work = false; start = 0; end = 0 })
 
 -- a member whose text lies in the work buffer
 abbrev pub in_work : Member → ℕ → ℕ → Member
 in_work m a e = placed_at m (record { work = true; start = a; end = e })
+
+-- the first i members are made, with so many files taken in; the others are as they were
+pub record Making (B L : ℕ) (index contents : List ℕ) (S : List File) (w₀ : List ℕ) (ms₀ : List Member) (w : List ℕ) (ms : List Member) (i used : ℕ) : Type 0 where
+  pub few : i ≤ length ms₀
+  pub kept : length w ≡ length w₀
+  pub lie : AllLie index (length contents) L (slot L i) ms
+  pub named : map unplaced ms ≡ map unplaced ms₀
+  pub later : drop i ms ≡ drop i ms₀
+  pub judged : judged_all B L S (all_files index contents w₀ ms₀)
+      ≡ behind (texts_of (all_files index contents w (take i ms))) (judge B L used (walk_all (map (start_at S) (all_files index contents w₀ (drop i ms₀)))))
+
+-- behind the first i of members stands m' now, and the others are as they were
+pub record Changed (index : List ℕ) (contents L stop : ℕ) (ms ms' : List Member) (m' : Member) (i : ℕ) : Type 0 where
+  pub front : take (i + 1) ms' ≡ take i ms ++ (m' ∷ [])
+  pub behind : drop (i + 1) ms' ≡ drop (i + 1) ms
+  pub named : map unplaced ms' ≡ map unplaced ms
+  pub lie : AllLie index contents L stop ms'
 
 -- ---- slots
 
@@ -70,186 +70,205 @@ table_fits L n count W r =
 
 -- ---- one member changes
 
-lies_in : {index contents L stop stop' : ℕ} {m m' : Member} → Lies index contents L stop m → SameName m' m → Inside m'.source L contents stop' → Lies index contents L stop' m'
-lies_in l s h = record {
-  forward = rw s.name l.forward;
-  named = rw s.name l.named;
-  short = rw s.name l.short;
-  first = rw s.file l.first;
-  last = rw s.file l.last;
-  inside = h;
+-- one name for each number, whatever lies where
+module _ (index : List ℕ) where
+  one-unplaced : (ms : List Member) → OneName index ms → OneName index (map unplaced ms)
+  one-unplaced ms h = All-map (λ m. All (Agree index m) (map unplaced ms)) unplaced ms (λ i d k. All-map (Agree index (get_or ms i d)) unplaced ms (h i d k))
+
+  one-placed : (ms : List Member) → OneName index (map unplaced ms) → OneName index ms
+  one-placed ms h i d k j e l =
+      let g : Agree index (get_or (map unplaced ms) i (unplaced d)) (get_or (map unplaced ms) j (unplaced e)) =
+      h i (unplaced d) (omega (arith, length-map ms unplaced)) j (unplaced e) (omega (arith, length-map ms unplaced)) in
+      rw (get_or-map unplaced ms i d, get_or-map unplaced ms j e) at g
+
+  one_name : (ms ms' : List Member) → map unplaced ms' ≡ map unplaced ms → OneName index ms → OneName index ms'
+  one_name ms ms' e h = one-placed ms' (rw e (one-unplaced ms h))
+
+lies-more : {index contents L stop stop' : ℕ} → stop ≤ stop' → (m : Member) → Lies index contents L stop m → Lies index contents L stop' m
+lies-more {contents = contents} {L = L} {stop = stop} {stop' = stop'} k m l = record {
+  forward = l.forward;
+  named = l.named;
+  short = l.short;
+  first = l.first;
+  last = l.last;
+  inside = inside_more m.source L contents stop l.inside stop' k;
 }
 
-inside_as : (L contents stop : ℕ) (m m' : Member) → m ≡ m' → Inside m'.source L contents stop → Inside m.source L contents stop
-inside_as L contents stop m m' e h = rw e h
-
-named-same : (index : List ℕ) (m m' : Member) → SameName m m' → name_of index m ≡ name_of index m'
-named-same index m m' s = rw s.name
-
-module _ {L contents stop' : ℕ} {set set' : List ℕ} {i : ℕ} (h : Changed L contents stop' set set' i) where
-  -- whichever it is
-  changed-same : (j : ℕ) → SameName (member_at set' j) (member_at set j)
-  changed-same j = go (eqb j i) refl
-    where
-      go : (b : Bool) → eqb j i ≡ b → SameName (member_at set' j) (member_at set j)
-      go true e = rw (eqb-true j i e) h.same
-      go false e = let q : member_at set' j ≡ member_at set j = h.others j (eqb-false j i e) in record { name = ap (λ (m : Member). m.name) q; file = ap (λ (m : Member). m.file) q }
-
-  changed-lie : {index : List ℕ} {stop count : ℕ} → stop ≤ stop' → AllLie index contents L stop set count → AllLie index contents L stop' set' count
-  changed-lie {index} {stop} {count} q a = record { few = a.few; lie = each; same = one_name }
-    where
-      each : (j : ℕ) → j < count → Lies (length index) contents L stop' (member_at set' j)
-      each j k = go (eqb j i) refl
-        where
-          go : (b : Bool) → eqb j i ≡ b → Lies (length index) contents L stop' (member_at set' j)
-          go true e = let z : j ≡ i = eqb-true j i e in lies_in (a.lie j k) (changed-same j) (rw z h.inside)
-          go false e = lies_in (a.lie j k) (changed-same j) (inside_as L contents stop' (member_at set' j) (member_at set j) (h.others j (eqb-false j i e)) (inside_more (member_at set j).source L contents stop (a.lie j k).inside stop' q))
-
-      one_name : (j k : ℕ) → j < count → k < count → (member_at set' j).file ≡ (member_at set' k).file → name_of index (member_at set' j) ≡ name_of index (member_at set' k)
-      one_name j k b c e =
-          named-same index (member_at set' j) (member_at set j) (changed-same j)
-          ∙ a.same j k b c (sym (changed-same j).file ∙ e ∙ (changed-same k).file)
-          ∙ sym (named-same index (member_at set' k) (member_at set k) (changed-same k))
+all-lie-more : {index : List ℕ} {contents L stop stop' : ℕ} {ms : List Member} → stop ≤ stop' → AllLie index contents L stop ms → AllLie index contents L stop' ms
+all-lie-more {index} {contents} {L} {stop} {stop'} {ms} k a =
+    record { few = a.few; lie = All-weaker (Lies (length index) contents L stop) (Lies (length index) contents L stop') (lies-more k) ms a.lie; same = a.same }
 
 -- nothing changes; a member's text lies in the work buffer now
-pub changed_not : {L contents stop : ℕ} {set : List ℕ} {i : ℕ} → length set ≡ 704 → Inside (member_at set i).source L contents stop → Changed L contents stop set set i
-changed_not l h = record { whole = l; others = λ j q. refl; same = record { name = refl; file = refl }; inside = h }
-
-module _ (set : List ℕ) {set' : List ℕ} (i : ℕ) (m : Member) (a e : ℕ) (l : length set ≡ 704) (few : i < 64) (w : set' ≡ sets set (11 * i) (numbers_of (in_work m a e))) where
-  put-here : member_at set' i ≡ in_work m a e
-  put-here = ap (λ (s : List ℕ). member_at s i) w ∙ member_put_same set i (in_work m a e) l few tt
-
-  put-text : (contents work : List ℕ) → source_text (member_at set' i).source contents work ≡ part a e work
-  put-text contents work = ap (λ (x : Member). source_text x.source contents work) put-here
-
-  changed-put : {L contents stop : ℕ} → m ≡ member_at set i → L ≤ a → a ≤ e → e ≤ stop → Changed L contents stop set set' i
-  changed-put {L} {contents} {stop} q b c d = record {
-    whole = ap length w ∙ put-length set i (in_work m a e) ∙ l;
-    others = λ j k. ap (λ (s : List ℕ). member_at s j) w ∙ member_put_other set i (in_work m a e) j k;
-    same = record { name = ap (λ (x : Member). x.name) put-here ∙ ap (λ (x : Member). x.name) q; file = ap (λ (x : Member). x.file) put-here ∙ ap (λ (x : Member). x.file) q };
-    inside = inside_as L contents stop (member_at set' i) (in_work m a e) put-here (c, (b, d));
+module _ {index : List ℕ} {contents L stop stop' : ℕ} {ms : List Member} {i : ℕ} (m : Member) (is : m ≡ get_or ms i m) (h : i < length ms) (k : stop ≤ stop') (a : AllLie index contents L stop ms) where
+  pub changed_not : Changed index contents L stop' ms ms m i
+  changed_not = record {
+    front = take_more ms i m h ∙ ap (λ x. take i ms ++ (x ∷ [])) (sym is);
+    behind = refl;
+    named = refl;
+    lie = all-lie-more k a;
   }
+
+  pub changed : (b e : ℕ) → L ≤ b → b ≤ e → e ≤ stop' → Changed index contents L stop' ms (set ms i (in_work m b e)) (in_work m b e) i
+  changed b e f g j =
+      let n : map unplaced (set ms i (in_work m b e)) ≡ map unplaced ms = map-set_same unplaced ms i (in_work m b e) m (ap unplaced is) in
+      let l : Lies (length index) contents L stop m = rw (← is) at (All-get_or (Lies (length index) contents L stop) ms i m h a.lie) in
+      record {
+        front = take_more_set ms i (in_work m b e) h;
+        behind = drop-set-lt (i + 1) ms i (in_work m b e) (omega arith);
+        named = n;
+        lie = record {
+          few = omega (arith, length-set ms i (in_work m b e), a.few);
+          lie = All-set (Lies (length index) contents L stop') ms i (in_work m b e)
+              (record { forward = l.forward; named = l.named; short = l.short; first = l.first; last = l.last; inside = (g, (f, j)) })
+              (All-weaker (Lies (length index) contents L stop) (Lies (length index) contents L stop') (lies-more k) ms a.lie);
+          same = one_name index ms (set ms i (in_work m b e)) n a.same;
+        };
+      }
 
 -- ---- the loop
 
 -- a member that stands in the contents is the same file whatever the work buffer
-standing_file : (index contents v w : List ℕ) (m m' : Member) → m ≡ m' → m'.source.work ≡ false → file_in index contents v m ≡ file_in index contents w m'
-standing_file index contents v w m m' e h = rw (e, h)
+standing_file : (index contents v w : List ℕ) (m : Member) → m.source.work ≡ false → file_in index contents v m ≡ file_in index contents w m
+standing_file index contents v w m h = rw h
 
-pub making_start : {B L n count : ℕ} {index rows contents w set : List ℕ} (S : List File) → CanMake index rows (length contents) set n count L (length w)
-    → Making B L index contents S count w set w set 0 0
-unfolding files_from
-making_start {B} {L} {n} {count} {index} {rows} {contents} {w} {set} S c = record {
+-- and so are those that lie before a place, where the work buffer changes behind it
+files_up : (index contents v w : List ℕ) (size L stop : ℕ) (ms : List Member) → All (Lies size (length contents) L stop) ms → take stop v ≡ take stop w
+    → all_files index contents v ms ≡ all_files index contents w ms
+files_up index contents v w size L stop ms a up =
+    map-each (file_in index contents v) (file_in index contents w) ms
+    (λ i d h. let m : Member = get_or ms i d in ap (file_of m.file (name_of index m)) (source_up m.source L (length contents) stop contents v w (a i d h).inside up))
+
+-- members with their names and numbers, and other texts
+texts-same : (index contents v w : List ℕ) (ms ms₀ : List Member) → map unplaced ms ≡ map unplaced ms₀
+    → all_files index contents w ms ≡ with_texts (all_files index contents v ms₀) (texts_of (all_files index contents w ms))
+unfolding with_texts
+texts-same index contents v w [] [] e = refl
+texts-same index contents v w [] (m₀ ∷ ms₀) e = cc
+texts-same index contents v w (m ∷ ms) [] e = cc
+texts-same index contents v w (m ∷ ms) (m₀ ∷ ms₀) e =
+    let x : unplaced m ≡ unplaced m₀ = cc in
+    let xs : map unplaced ms ≡ map unplaced ms₀ = cc in
+    let f : m.file ≡ m₀.file = ap (λ (m : Member). m.file) x in
+    let n : m.name ≡ m₀.name = ap (λ (m : Member). m.name) x in
+    rw (f, n) (ap (λ (fs : List File). file_of m₀.file (name_of index m₀) (source_text m.source contents w) ∷ fs) (texts-same index contents v w ms ms₀ xs))
+
+pub making_start : {B L : ℕ} {files : FileSet} {w : List ℕ} {ms : List Member} (S : List File) → CanMake files ms L (length w)
+    → Making B L files.index.now files.contents.now S w ms w ms 0 0
+making_start {B} {L} {files} {w} {ms} S c = record {
   few = omega arith;
   kept = refl;
-  whole = c.whole;
   lie = let e : (0 + 1) * L ≡ L = omega arith in rw e c.lie;
-  same = λ j. record { name = refl; file = refl };
-  later = λ j h. refl;
-  judged = sym (behind-none (judged_all B L S (files_from index contents w set 0 count))) ∙ rw (sub-zero count);
+  named = refl;
+  later = refl;
+  judged = sym (behind-none (judged_all B L S (all_files files.index.now files.contents.now w ms)));
 }
 
-module _ {B L count : ℕ} {index contents : List ℕ} {S : List File} {w₀ set₀ w set : List ℕ} {i used : ℕ} (a : Making B L index contents S count w₀ set₀ w set i used) where
-  module _ (here : i < count) (stand : (member_at set₀ i).source.work ≡ false) where
-    abbrev rest : List File
-    rest = files_from index contents w₀ set₀ (i + 1) (count - (i + 1))
+module _ {B L : ℕ} {index contents : List ℕ} {S : List File} {w₀ : List ℕ} {ms₀ : List Member} {w : List ℕ} {ms : List Member} {i used : ℕ}
+    (a : Making B L index contents S w₀ ms₀ w ms i used) where
+  length-same : length ms ≡ length ms₀
+  length-same = sym (length-map ms unplaced) ∙ ap length a.named ∙ length-map ms₀ unplaced
 
+  module _ (here : i < length ms₀) (stand : All (λ m. m.source.work ≡ false) ms₀) (d : Member) where
     -- member i, and then the others
-    left-file : file_in index contents w₀ (member_at set₀ i) ≡ file_in index contents w (member_at set i)
-    left-file = sym (standing_file index contents w w₀ (member_at set i) (member_at set₀ i) (a.later i (omega arith)) stand)
+    abbrev m : Member
+    m = get_or ms i d
 
-    judged-left : judged_all B L S (files_from index contents w₀ set₀ 0 count)
-        ≡ behind (texts_of (files_from index contents w set 0 i)) (judge B L used (walk_all (start_at S (file_in index contents w (member_at set i)) ∷ map (start_at S) rest)))
+    is : m ≡ get_or ms i m
+    is = get_or_default ms i d m (omega (arith, length-same))
+
+    rest-first : drop i ms₀ ≡ m ∷ drop (i + 1) ms₀
+    rest-first =
+        let behind-same : drop (i + 1) ms ≡ drop (i + 1) ms₀ = sym (drop-drop 1 i ms) ∙ ap (drop 1) a.later ∙ drop-drop 1 i ms₀ in
+        sym a.later ∙ drop_more ms i d (omega (arith, length-same)) ∙ ap (λ (l : List Member). m ∷ l) behind-same
+
+    same-first : get_or ms₀ i d ≡ m
+    same-first =
+        let z : i + 0 ≡ i = omega arith in
+        rw z at (sym (get_or-drop i ms₀ 0 d) ∙ ap (λ (l : List Member). get_or l 0 d) rest-first)
+
+    stands : m.source.work ≡ false
+    stands = rw same-first at (All-get_or (λ x. x.source.work ≡ false) ms₀ i d here stand)
+
+    abbrev rest : List File
+    rest = all_files index contents w₀ (drop (i + 1) ms₀)
+
+    judged-left : judged_all B L S (all_files index contents w₀ ms₀)
+        ≡ behind (texts_of (all_files index contents w (take i ms))) (judge B L used (walk_all (start_at S (file_in index contents w m) ∷ map (start_at S) rest)))
     judged-left =
         a.judged
-        ∙ ap (λ (fs : List File). behind (texts_of (files_from index contents w set 0 i)) (judge B L used (walk_all (map (start_at S) fs))))
-        (files-at index contents w₀ set₀ i count here ∙ ap (λ (f : File). f ∷ rest) left-file)
+        ∙ ap (λ (fs : List File). behind (texts_of (all_files index contents w (take i ms))) (judge B L used (walk_all (map (start_at S) fs))))
+        (ap (all_files index contents w₀) rest-first ∙ ap (λ (f : File). f ∷ rest) (standing_file index contents w₀ w m stands))
 
-    pub making_stop : (x : Refusal) → judge B L used (walk (start_at S (file_in index contents w (member_at set i)))) ≡ refused x → judged_all B L S (files_from index contents w₀ set₀ 0 count) ≡ refused x
-    making_stop x e = judged-left ∙ ap (behind (texts_of (files_from index contents w set 0 i))) (all_stop B L used (start_at S (file_in index contents w (member_at set i))) (map (start_at S) rest) x e)
+    pub making_refused : (x : Refusal) → refusal x ≡ filled B L used (start_at S (file_in index contents w m)) → judged_all B L S (all_files index contents w₀ ms₀) ≡ refused x
+    making_refused x q =
+        judged-left
+        ∙ ap (behind (texts_of (all_files index contents w (take i ms))))
+        (all_stop B L used (start_at S (file_in index contents w m)) (map (start_at S) rest) x (filled-stopped B L used (start_at S (file_in index contents w m)) x q))
 
-    module _ (w' : List ℕ) {set' t : List ℕ} {n : ℕ} (q : judge B L used (walk (start_at S (file_in index contents w (member_at set i)))) ≡ given t n) (h : Changed L (length contents) (slot L (i + 1)) set set' i)
-        (up : take (slot L i) w' ≡ take (slot L i) w) (l : length w' ≡ length w) (e : source_text (member_at set' i).source contents w' ≡ t) where
-      before_same : files_from index contents w' set' 0 i ≡ files_from index contents w set 0 i
-      before_same =
-          files_set index contents w' set' set 0 i (λ k b c. let z : member_at set' k ≡ member_at set k = h.others k (λ g. omega arith) in
-          record { name = ap (λ (m : Member). m.name) z; file = ap (λ (m : Member). m.file) z; source = ap (λ (m : Member). m.source) z })
-          ∙ files-up contents w' w 0 i (omega (arith, a.few)) a.lie up
+    module _ (w' : List ℕ) (up : take (slot L i) w' ≡ take (slot L i) w) (l : length w' ≡ length w) where
+      module _ {ms' : List Member} {m' : Member} {t : List ℕ} {n : ℕ} (q : judge B L used (walk (start_at S (file_in index contents w m))) ≡ given t n)
+          (h : Changed index (length contents) L (slot L (i + 1)) ms ms' m' i) (e : source_text m'.source contents w' ≡ t) where
+        texts-more : texts_of (all_files index contents w' (take (i + 1) ms')) ≡ texts_of (all_files index contents w (take i ms)) ++ (t ∷ [])
+        texts-more =
+            let before : all_files index contents w' (take i ms) ≡ all_files index contents w (take i ms) =
+            files_up index contents w' w (length index) L (slot L i) (take i ms) (All-take (Lies (length index) (length contents) L (slot L i)) i ms a.lie.lie) up in
+            ap (λ (l : List Member). texts_of (all_files index contents w' l)) h.front
+            ∙ ap texts_of (map-append (file_in index contents w') (take i ms) (m' ∷ []))
+            ∙ map-append (λ (f : File). f.text) (all_files index contents w' (take i ms)) (file_in index contents w' m' ∷ [])
+            ∙ rw (before, e)
 
-      texts-more : texts_of (files_from index contents w' set' 0 (i + 1)) ≡ texts_of (files_from index contents w set 0 i) ++ (t ∷ [])
-      texts-more =
-          let z : 0 + i ≡ i = omega arith in
-          ap texts_of (files_more index contents w' set' 0 i)
-          ∙ map-append (λ (f : File). f.text) (files_from index contents w' set' 0 i) (file_in index contents w' (member_at set' (0 + i)) ∷ [])
-          ∙ rw (z, before_same, e)
+        making_more : Making B L index contents S w₀ ms₀ w' ms' (i + 1) n
+        making_more = record {
+          few = omega arith;
+          kept = l ∙ a.kept;
+          lie = h.lie;
+          named = h.named ∙ a.named;
+          later = h.behind ∙ sym (drop-drop 1 i ms) ∙ ap (drop 1) a.later ∙ drop-drop 1 i ms₀;
+          judged = judged-left
+              ∙ ap (behind (texts_of (all_files index contents w (take i ms)))) (all_more B L used (start_at S (file_in index contents w m)) (map (start_at S) rest) t n q)
+              ∙ behind_more (texts_of (all_files index contents w (take i ms))) t (judge B L n (walk_all (map (start_at S) rest)))
+              ∙ ap (λ (ts : List (List ℕ)). behind ts (judge B L n (walk_all (map (start_at S) rest)))) (sym texts-more);
+        }
 
-      pub making_more : Making B L index contents S count w₀ set₀ w' set' (i + 1) n
-      making_more = record {
-        few = omega arith;
-        kept = l ∙ a.kept;
-        whole = h.whole;
-        lie = changed-lie h (slot_le L i (i + 1) (omega arith)) a.lie;
-        same = λ j. let x = changed-same h j in record { name = x.name ∙ (a.same j).name; file = x.file ∙ (a.same j).file };
-        later = λ j k. h.others j (λ g. omega arith) ∙ a.later j (omega arith);
-        judged = judged-left
-            ∙ ap (behind (texts_of (files_from index contents w set 0 i))) (all_more B L used (start_at S (file_in index contents w (member_at set i))) (map (start_at S) rest) t n q)
-            ∙ behind_more (texts_of (files_from index contents w set 0 i)) t (judge B L n (walk_all (map (start_at S) rest)))
-            ∙ ap (λ (ts : List (List ℕ)). behind ts (judge B L n (walk_all (map (start_at S) rest)))) (sym texts-more);
-      }
+      -- "keeps its text on "no region""
+      pub making_kept : noRegion ≡ filled B L used (start_at S (file_in index contents w m)) → Making B L index contents S w₀ ms₀ w' ms (i + 1) used
+      making_kept q =
+          let inside : Inside m.source L (length contents) (slot L i) = (a.lie.lie i d (omega (arith, length-same))).inside in
+          making_more (filled-plain B L used S (name_of index m) no_marks (file_in index contents w m) (sym q))
+          (changed_not m is (omega (arith, length-same)) (slot_le L i (i + 1) (omega arith)) a.lie)
+          (source_up m.source L (length contents) (slot L i) contents w' w inside up)
 
-    -- what its fill gave, told of the member as it is in the set
-    module _ (m : Member) (is : m ≡ member_at set i) where
-      of-set : {o : Outcome} → o ≡ filled B L used (start_at S (file_in index contents w m)) → o ≡ filled B L used (start_at S (file_in index contents w (member_at set i)))
-      of-set q = rw is at q
-
-      pub making_refused : (x : Refusal) → refusal x ≡ filled B L used (start_at S (file_in index contents w m)) → judged_all B L S (files_from index contents w₀ set₀ 0 count) ≡ refused x
-      making_refused x q = making_stop x (filled-stopped B L used (start_at S (file_in index contents w (member_at set i))) x (of-set q))
-
-      module _ (w' : List ℕ) (up : take (slot L i) w' ≡ take (slot L i) w) (l : length w' ≡ length w) where
-        -- "keeps its text on "no region""
-        pub making_kept : noRegion ≡ filled B L used (start_at S (file_in index contents w m)) → Making B L index contents S count w₀ set₀ w' set (i + 1) used
-        making_kept q =
-            let h = (a.lie.lie i here).inside in
-            let g : Inside (member_at set i).source L (length contents) (slot L (i + 1)) = inside_more (member_at set i).source L (length contents) (slot L i) h (slot L (i + 1)) (slot_le L i (i + 1) (omega arith)) in
-            making_more w' (filled-plain B L used S (name_of index (member_at set i)) no_marks (file_in index contents w (member_at set i)) (sym (of-set q)))
-            (changed_not a.whole g) up l (source_up (member_at set i).source L (length contents) (slot L i) contents w' w h up)
-
-        pub making_filled : (set' : List ℕ) (len files : ℕ) → len ≤ L → set' ≡ sets set (11 * i) (numbers_of (in_work m (slot L i) (slot L i + len)))
-            → text (take len (drop (slot L i) w')) files ≡ filled B L used (start_at S (file_in index contents w m)) → Making B L index contents S count w₀ set₀ w' set' (i + 1) files
-        making_filled set' len files h p q =
-            let few : i < 64 = omega (arith, a.lie.few) in
-            making_more w' (filled-given B L used (start_at S (file_in index contents w (member_at set i))) (take len (drop (slot L i) w')) files (of-set q))
-            (changed-put set i m (slot L i) (slot L i + len) a.whole few p is (omega (arith, slot_le L 0 i (omega arith))) (omega arith) (omega (arith, slot_next L i)))
-            up l (put-text set i m (slot L i) (slot L i + len) a.whole few p contents w' ∙ (let z : slot L i + len - slot L i ≡ len = omega arith in rw z))
+      pub making_filled : (len files : ℕ) → len ≤ L → text (take len (drop (slot L i) w')) files ≡ filled B L used (start_at S (file_in index contents w m))
+          → Making B L index contents S w₀ ms₀ w' (set ms i (in_work m (slot L i) (slot L i + len))) (i + 1) files
+      making_filled len files h q =
+          let z : slot L i + len - slot L i ≡ len = omega arith in
+          making_more (filled-given B L used (start_at S (file_in index contents w m)) (take len (drop (slot L i) w')) files q)
+          (changed m is (omega (arith, length-same)) (slot_le L i (i + 1) (omega arith)) a.lie (slot L i) (slot L i + len) (omega (arith, slot_le L 0 i (omega arith))) (omega arith)
+          (omega (arith, slot_next L i)))
+          (rw z)
 
   -- all lie up to the last slot
-  pub lie_on : AllLie index (length contents) L (slot L count) set count
-  lie_on =
-      let q = slot_le L i count a.few in
-      record {
-        few = a.lie.few;
-        lie = λ j k. lies_in (a.lie.lie j k) (record { name = refl; file = refl }) (inside_more (member_at set j).source L (length contents) (slot L i) (a.lie.lie j k).inside (slot L count) q);
-        same = a.lie.same;
-      }
+  pub lie_on : AllLie index (length contents) L (slot L (length ms₀)) ms
+  lie_on = all-lie-more (slot_le L i (length ms₀) a.few) a.lie
 
-  texts-same : (j n : ℕ) → files_from index contents w set j n ≡ with_texts (files_from index contents w₀ set₀ j n) (texts_of (files_from index contents w set j n))
-  unfolding files_from with_texts
-  texts-same j zero = refl
-  texts-same j (suc n) =
-      ap (λ (f : File). f ∷ files_from index contents w set (j + 1) n) (named j (a.same j))
-      ∙ ap (λ (fs : List File). file_of (member_at set₀ j).file (name_of index (member_at set₀ j)) (source_text (member_at set j).source contents w) ∷ fs) (texts-same (j + 1) n)
-    where
-      named : (j : ℕ) → SameName (member_at set j) (member_at set₀ j) → file_in index contents w (member_at set j) ≡ file_of (member_at set₀ j).file (name_of index (member_at set₀ j)) (source_text (member_at set j).source contents w)
-      named j s = ap (λ (k : ℕ). file_of k (name_of index (member_at set j)) (source_text (member_at set j).source contents w)) s.file
-          ∙ ap (λ (x : List ℕ). file_of (member_at set₀ j).file x (source_text (member_at set j).source contents w)) (named-same index (member_at set j) (member_at set₀ j) s)
-
-  pub making_end : count ≤ i → AreMade B L S (files_from index contents w₀ set₀ 0 count) (files_from index contents w set 0 count) used
+  pub making_end : length ms₀ ≤ i → AreMade B L S (all_files index contents w₀ ms₀) (all_files index contents w ms) used
   unfolding walk_all judge
-  making_end h = record { judged = all; same = texts-same 0 count }
+  making_end h = record { judged = all; same = texts-same index contents w₀ w ms ms₀ a.named }
     where
-      all : judged_all B L S (files_from index contents w₀ set₀ 0 count) ≡ given (texts_of (files_from index contents w set 0 count)) used
-      all =
-          let z : i ≡ count = omega (arith, a.few) in
-          a.judged ∙ rw (files-end index contents w₀ set₀ i count h, z) (ap (λ (ts : List (List ℕ)). given ts used) (append-nil (texts_of (files_from index contents w set 0 count))))
+      all : judged_all B L S (all_files index contents w₀ ms₀) ≡ given (texts_of (all_files index contents w ms)) used
+      all = a.judged ∙ rw (drop_all i ms₀ h, take_all i ms (omega (arith, length-same))) (ap (λ (ts : List (List ℕ)). given ts used) (append-nil (texts_of (all_files index contents w ms))))
+
+-- member i can be filled in its slot
+pub can_fill : {B L : ℕ} {files : FileSet} {S : List File} {w₀ : List ℕ} {ms₀ : List Member} {w : List ℕ} {ms : List Member} {i used : ℕ}
+    → Making B L files.index.now files.contents.now S w₀ ms₀ w ms i used → CanMake files ms₀ L (length w₀) → i < length ms₀ → (d : Member)
+    → CanFill files (get_or ms i d) L (slot L i) (length w)
+can_fill {L = L} {files = files} {ms₀ = ms₀} {i = i} a c here d =
+    let n : ℕ = length (files_of files) in
+    let room : (i + 1 + suc n) * L ≤ (n + length ms₀ + 2) * L = mul-le-mul_right L (omega arith) in
+    record {
+      lies = rw (same-first a here c.stand d) at (c.lie.lie i d here);
+      stands = stands a here c.stand d;
+      room = omega (arith, room, a.kept, c.room);
+    }
 
 pub ruleset makings = (making_start, lie_on, making_end)

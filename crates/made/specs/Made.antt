@@ -1,14 +1,15 @@
 -- The members of a book, each filled in its slot of the work buffer or kept as it stands in the contents. Nothing here is document 01's: functions promise it, and the laws of
 -- `proofs/` tie it to the walk of the book.
-use Rattle.std.specs.Prelude.{ℕ, suc, ◌+◌, ◌*◌, ◌≤◌, ◌<◌, ◌≡◌, false, List, map, length, Result, Ok, Err}
+use Rattle.std.specs.Prelude.{ℕ, suc, ◌+◌, ◌*◌, ◌≤◌, ◌≡◌, false, List, map, length, All, Result, Ok, Err}
 use Rattle.answer.specs.declared.Refusal.{Refusal}
 use Rattle.index.specs.Index.{File}
+use Rattle.index.specs.FileSets.{files_of}
+use Rattle.index.specs.declared.file_set.FileSet.{FileSet}
 use Rattle.walk.specs.Steps.{Steps, go, Judged, given, refused, judge}
 use Rattle.chains.specs.Chains.{start_at}
 use Rattle.assembled.specs.Assemble.{assemble}
-use Rattle.opening.specs.Opening.{Ready}
 use Rattle.put.specs.declared.Source.{Source}
-use Rattle.members.specs.Members.{member_at, Lies, AllLie}
+use Rattle.members.specs.Members.{Lies, AllLie}
 use Rattle.members.specs.declared.Member.{Member}
 use Rattle.listed.specs.Files.{no_outline}
 use Rattle.book.specs.Book.{with_texts}
@@ -22,20 +23,17 @@ slot L i = (i + 1) * L
 abbrev pub placed_at : Member → Source → Member
 placed_at m s = record { name = m.name; file = m.file; source = s; outline = no_outline }
 
--- a member that stands in the contents can be filled from a place of a work buffer of so many bytes on, which has room for it and each of n records
-pub record CanFill (index rows : List ℕ) (contents : ℕ) (m : Member) (n L at work : ℕ) : Type 0 where
-  pub ready : Ready index rows contents n
-  pub lies : Lies (length index) contents L L m
+-- a member that stands in the contents can be filled from a place of a work buffer of so many bytes on, which has room for it and each file
+pub record CanFill (files : FileSet) (m : Member) (L at work : ℕ) : Type 0 where
+  pub lies : Lies (length files.index.now) (length files.contents.now) L L m
   pub stands : m.source.work ≡ false
-  pub room : at + suc n * L ≤ work
+  pub room : at + suc (length (files_of files)) * L ≤ work
 
--- count members of a set stand in the contents, and the work buffer has a slot for each of n records, each of them and two more
-pub record CanMake (index rows : List ℕ) (contents : ℕ) (set : List ℕ) (n count L work : ℕ) : Type 0 where
-  pub ready : Ready index rows contents n
-  pub whole : length set ≡ 704
-  pub lie : AllLie index contents L L set count
-  pub stand : (i : ℕ) → i < count → (member_at set i).source.work ≡ false
-  pub room : (n + count + 2) * L ≤ work
+-- members stand in the contents, and the work buffer has a slot for each file, each of them and two more
+pub record CanMake (files : FileSet) (ms : List Member) (L work : ℕ) : Type 0 where
+  pub lie : AllLie files.index.now (length files.contents.now) L L ms
+  pub stand : All (λ m. m.source.work ≡ false) ms
+  pub room : (length (files_of files) + length ms + 2) * L ≤ work
 
 -- the walk of the book whose members are hs
 abbrev pub book_of : List File → List File → List ℕ → Steps (List ℕ)

@@ -4,14 +4,15 @@
 ghost use Rattle.std.specs.Prelude.{◌≡◌, ◌+◌, length, take, drop};
 ghost use Rattle.chains.specs.Chains.{start_at};
 ghost use Rattle.chains.specs.Fill.{filled};
-ghost use Rattle.opening.specs.Opening.{files_in};
+ghost use Rattle.index.specs.FileSets.{files_of};
 ghost use Rattle.filling.specs.Filling.{read_filled, FilledWithin};
-ghost use Rattle.members.specs.Members.{file_in, files_from, AllLie};
+ghost use Rattle.members.specs.Members.{file_in, all_files, AllLie};
 ghost use Rattle.made.specs.Made.{slot, placed_at, CanFill, CanMake, MadeOf};
 
 use answer::{Answer, Refusal};
+use index::file_set::FileSet;
 use members::Member;
-use opening::Filling;
+use opening::{Chain, Filling};
 use put::Source;
 
 // A member whose text lies at another place now.
@@ -28,72 +29,66 @@ fn placed(m: Member, source: Source) -> Member
 // Fills a member that stands in the contents, from a place of the work buffer on. The chain starts with its name.
 #[tactic(auto, using(crate::proofs::MemberLaws::slots))]
 fn fill_member(
-    index: &[u8],
-    rows: &[usize; 256],
-    contents: &[u8],
+    files: FileSet,
     m: Member,
     at: Filling,
     slot: usize,
     work: &mut [u8],
 ) -> Result<Answer, Refusal>
-    requires { CanFill index.now rows.now (length contents.now) m at.count at.limit slot (length work.old) × (at.number ≡ m.file) }
+    requires { CanFill files m at.limit slot (length work.old) × (at.number ≡ m.file) }
     ensures work_after { read_filled result (drop slot work.new) ≡ filled at.allowance at.limit at.used
-        (start_at (files_in index.now rows.now contents.now at.count) (file_in index.now contents.now work.old m)) }
+        (start_at (files_of files.entry) (file_in files.entry.index.now files.entry.contents.now work.old m)) }
     ensures filled_within { FilledWithin result at.limit × (take slot work.new ≡ take slot work.old) }
 {
-    let name = &index[m.name.start..m.name.end];
-    fragment::fill_regions(
-        index,
-        rows,
-        contents,
-        name,
-        [false; 64],
-        name,
-        &contents[m.source.start..m.source.end],
-        at,
-        &mut work[slot..],
-    )
+    let name = &files.index[m.name.start..m.name.end];
+    let text = &files.contents[m.source.start..m.source.end];
+    let chain = Chain {
+        files,
+        top: name,
+        marks: [false; 64],
+    };
+    fragment::fill_regions(chain, name, text, at, &mut work[slot..])
 }
 
-// Makes the members of a set, which stand in the contents: a filled one lies in its slot then, and one with no region is kept as it stands. The allowance runs on
-// through the set.
+// Makes members, which stand in the contents: a filled one lies in its slot then, and one with no region is kept as it stands. The allowance runs on through them. Answers
+// how many files were taken in.
 #[tactic(auto, using(crate::proofs::MakingLaws::makings))]
 pub fn put_made(
-    index: &[u8],
-    rows: &[usize; 256],
-    contents: &[u8],
-    records: usize,
+    files: FileSet,
     limit: usize,
     allowance: usize,
-    set: &mut [usize; 704],
-    count: usize,
+    members: &mut [Member],
     work: &mut [u8],
 ) -> Result<usize, Refusal>
-    requires { CanMake index.now rows.now (length contents.now) set.old records count limit (length work.old) }
-    ensures made_of { MadeOf allowance limit (files_in index.now rows.now contents.now records) (files_from index.now contents.now work.old set.old 0 count)
-        (files_from index.now contents.now work.new set.new 0 count) result }
-    ensures all_lie { AllLie index.now (length contents.now) limit (slot limit count) set.new count }
+    requires { CanMake files members.old limit (length work.old) }
+    ensures made_of { MadeOf allowance limit (files_of files.entry) (all_files files.entry.index.now files.entry.contents.now work.old members.old)
+        (all_files files.entry.index.now files.entry.contents.now work.new members.new) result }
+    ensures all_lie { AllLie files.entry.index.now (length files.entry.contents.now) limit (slot limit (length members.old)) members.new }
 {
     let mut used = 0;
-    for i in 0..count {
-        let m = members::member_at(set, i);
+    for i in 0..members.len() {
+        let member = members[i];
         let at = Filling {
-            number: m.file,
-            count: records,
+            number: member.file,
             limit,
             allowance,
             used,
         };
         let slot = (i + 1) * limit;
-        match fill_member(index, rows, contents, m, at, slot, work) {
-            Ok(Answer::Accepted { length, files }) => {
+        match fill_member(files, member, at, slot, work) {
+            Ok(
+                Answer::Accepted {
+                    length,
+                    files: taken,
+                },
+            ) => {
                 let filled = Source {
                     work: true,
                     start: slot,
                     end: slot + length,
                 };
-                members::put_member(set, i, placed(m, filled));
-                used = files;
+                members[i] = placed(member, filled);
+                used = taken;
             }
             Ok(Answer::NoRegion) => continue,
             Err(refusal) => return Err(refusal),

@@ -8,9 +8,11 @@ use mathlib.Core.List.{List}
 use lib.ListN.{length, take, drop, length-drop}
 use lib.Dec.{eqb}
 use Rattle.marker.specs.declared.line.Fragment.{Fragment}
+use Rattle.text.specs.declared.part.Part.{Part}
 use Rattle.text.specs.Pattern.{bytes, starts_with, equals, find, contains}
 use Rattle.text.specs.Space.{trim}
 use Rattle.text.proofs.PatternLaws.{find-within, contains_nothing}
+use Rattle.marker.specs.declared.problem.Problem.TheVariants.{MarkerInFence, FragmentMarker, StrayCloser, NestedMarker, EmptySpec}
 use Rattle.marker.specs.declared.line.Kind.{Kind}
 use Rattle.fence.specs.Fences.{is_fence}
 use Rattle.marker.specs.declared.line.Kind.TheVariants.{Plain, Fence, Fault, Closes, Opens, Spans}
@@ -20,12 +22,12 @@ use Rattle.marker.specs.Marker.{OPEN, SPEC-END, CLOSE, OPEN-FRAGMENT, text_of, s
 
 -- a span's text ends past lo, and its closer ends by hi
 abbrev Ends : ℕ → ℕ → Mark → Type 0
-Ends lo hi (Marked a e c d) = (lo < d) × (d + 10 ≤ hi)
+Ends lo hi (Marked a t) = (lo < t.end) × (t.end + 10 ≤ hi)
 Ends lo hi (Problem k) = Unit {0}
 Ends lo hi End = Unit {0}
 
 weaken : (lo lo' hi hi' : ℕ) (m : Mark) → lo' ≤ lo → hi ≤ hi' → Ends lo hi m → Ends lo' hi' m
-weaken lo lo' hi hi' (Marked a e c d) p q h = omega arith
+weaken lo lo' hi hi' (Marked a t) p q h = omega arith
 weaken lo lo' hi hi' (Problem k) p q h = tt
 weaken lo lo' hi hi' End p q h = tt
 
@@ -34,7 +36,7 @@ unfolding text_of
 ends-text o j b = go (find CLOSE b) refl
   where
     by : (k : ℕ) (x y : Bool) → k + 10 ≤ length b
-        → Ends o (o + j + 4 + length b) (cond x (Problem 9) (cond y (Problem 10) (Marked o (o + j) (o + j + 4) (o + j + 4 + k))))
+        → Ends o (o + j + 4 + length b) (cond x (Problem NestedMarker) (cond y (Problem EmptySpec) (Marked (record { start = o; end = o + j }) (record { start = o + j + 4; end = o + j + 4 + k }))))
     by k true y h = tt
     by k false true h = tt
     by k false false h = omega arith
@@ -55,7 +57,7 @@ ends-mark o b = by (starts_with (bytes "/") b) (go (find SPEC-END b) refl)
         (ends-text o j r)
     go None e = tt
 
-    by : (x : Bool) → Ends o (o + length b) (spec_of o b (find SPEC-END b)) → Ends o (o + length b) (cond x (Problem 6) (spec_of o b (find SPEC-END b)))
+    by : (x : Bool) → Ends o (o + length b) (spec_of o b (find SPEC-END b)) → Ends o (o + length b) (cond x (Problem StrayCloser) (spec_of o b (find SPEC-END b)))
     by true h = tt
     by false h = h
 
@@ -72,8 +74,8 @@ ends_next o r = go (find OPEN r) refl
     go None e = tt
 
 -- a span that is read ends within the line, past where the reading began
-pub mark-within : (o : ℕ) (r : List ℕ) (a e c d : ℕ) → next_mark o r ≡ Marked a e c d → (o < d) × (d + 10 ≤ o + length r)
-mark-within o r a e c d q = subst (Ends o (o + length r)) q (ends_next o r)
+pub mark-within : (o : ℕ) (r : List ℕ) (a t : Part) → next_mark o r ≡ Marked a t → (o < t.end) × (t.end + 10 ≤ o + length r)
+mark-within o r a t q = subst (Ends o (o + length r)) q (ends_next o r)
 
 -- spans are read from a place of the line, and a region closes only outside a fence and where one is open
 abbrev Fits : Bool → Bool → List ℕ → Kind → Type 0
@@ -81,7 +83,7 @@ Fits fence inside l Plain = Unit {0}
 Fits fence inside l Fence = Unit {0}
 Fits fence inside l (Fault k) = Unit {0}
 Fits fence inside l Closes = (fence ≡ false) × (inside ≡ true)
-Fits fence inside l (Opens a e peer) = Unit {0}
+Fits fence inside l (Opens p) = Unit {0}
 Fits fence inside l (Spans i) = i ≤ length l
 
 fits_fragment : (fence inside : Bool) (i : ℕ) (l : List ℕ) (f : Option Fragment) → i ≤ length l → Fits fence inside l (fragment_kind inside i l f)
@@ -90,7 +92,7 @@ fits_fragment fence true i l (Some p) h = tt
 fits_fragment fence false i l (Some p) h = tt
 fits_fragment fence inside i l None h = by (contains OPEN-FRAGMENT l)
   where
-    by : (x : Bool) → Fits fence inside l (cond x (Fault 3) (Spans i))
+    by : (x : Bool) → Fits fence inside l (cond x (Fault FragmentMarker) (Spans i))
     by true = tt
     by false = h
 
@@ -98,7 +100,7 @@ fits-kind : (fence inside : Bool) (o : ℕ) (l : List ℕ) → Fits fence inside
 unfolding kind_of marked_kind
 fits-kind fence inside o l = by (is_fence l) (go (find OPEN l) refl)
   where
-    marked : (a b c : Bool) (k : Kind) → Fits a b l k → Fits a b l (cond a (Fault 1) (cond (b && c) Closes k))
+    marked : (a b c : Bool) (k : Kind) → Fits a b l k → Fits a b l (cond a (Fault MarkerInFence) (cond (b && c) Closes k))
     marked true b c k h = tt
     marked false true true k h = (refl, refl)
     marked false true false k h = h

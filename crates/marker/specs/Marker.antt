@@ -4,6 +4,7 @@ use Rattle.marker.specs.declared.line.Fragment.{Fragment}
 use Rattle.text.specs.Pattern.{bytes, starts_with, ends_with, equals, find, contains}
 use Rattle.text.specs.Space.{lead, trim}
 use Rattle.fence.specs.Fences.{is_fence}
+use Rattle.marker.specs.declared.problem.Problem.TheVariants.{MarkerInFence, NestedRegion, FragmentMarker, StrayCloser, UnclosedSpec, UnclosedSpan, NestedMarker, EmptySpec}
 use Rattle.marker.specs.declared.line.Kind.{Kind}
 use Rattle.marker.specs.declared.line.Kind.TheVariants.{Plain, Fence, Fault, Closes, Opens, Spans}
 use Rattle.marker.specs.declared.span.Mark.{Mark}
@@ -26,7 +27,7 @@ OPEN-FRAGMENT = bytes "<!--[fragment:"
 unfoldable pub path_of : ℕ → Bool → List ℕ → Option Fragment
 path_of o peer p =
     cond (eqb (length p) 0 || contains SPEC-END p || contains (bytes ":") p) None
-    (Some (record { start = o; end = o + length p; peer = peer }))
+    (Some (record { path = record { start = o; end = o + length p }; peer = peer }))
 
 -- what stands at place o between `<!--[fragment:` and `]-->`: P, or P and `:peer`
 unfoldable pub named_of : ℕ → List ℕ → Option Fragment
@@ -48,20 +49,20 @@ fragment_of o l = alone_of (o + lead l) (trim l)
 -- "Span problems, in this order at each `<!--[`": b is what stands after it on the line, at place o
 -- "8 no later `<!--[/]-->` on the line; 9 the text between holds `<!--[`; 10 empty spec": b is what stands after a spec of j bytes and its `]-->`
 unfoldable pub text_of : ℕ → ℕ → List ℕ → Option ℕ → Mark
-text_of o j b None = Problem 8
+text_of o j b None = Problem UnclosedSpan
 text_of o j b (Some k) =
-    cond (contains OPEN (take k b)) (Problem 9)
-    (cond (eqb j 0) (Problem 10)
-    (Marked o (o + j) (o + j + 4) (o + j + 4 + k)))
+    cond (contains OPEN (take k b)) (Problem NestedMarker)
+    (cond (eqb j 0) (Problem EmptySpec)
+    (Marked (record { start = o; end = o + j }) (record { start = o + j + 4; end = o + j + 4 + k })))
 
 -- "7 no later `]-->`"
 unfoldable pub spec_of : ℕ → List ℕ → Option ℕ → Mark
-spec_of o b None = Problem 7
+spec_of o b None = Problem UnclosedSpec
 spec_of o b (Some j) = text_of o j (drop (j + 4) b) (find CLOSE (drop (j + 4) b))
 
 -- "6 a `/` directly after it"
 unfoldable pub mark_of : ℕ → List ℕ → Mark
-mark_of o b = cond (starts_with (bytes "/") b) (Problem 6) (spec_of o b (find SPEC-END b))
+mark_of o b = cond (starts_with (bytes "/") b) (Problem StrayCloser) (spec_of o b (find SPEC-END b))
 
 -- the first marker of r, the rest of a line from place o on
 unfoldable pub first_of : ℕ → List ℕ → Option ℕ → Mark
@@ -73,14 +74,14 @@ next_mark o r = first_of o r (find OPEN r)
 
 -- "a region opens (problem 2 if one is open); any other `<!--[fragment:` is 3; else spans are read", from the first marker on, at place i of the line
 unfoldable pub fragment_kind : Bool → ℕ → List ℕ → Option Fragment → Kind
-fragment_kind inside i l (Some p) = cond inside (Fault 2) (Opens p.start p.end p.peer)
-fragment_kind inside i l None = cond (contains OPEN-FRAGMENT l) (Fault 3) (Spans i)
+fragment_kind inside i l (Some p) = cond inside (Fault NestedRegion) (Opens p)
+fragment_kind inside i l None = cond (contains OPEN-FRAGMENT l) (Fault FragmentMarker) (Spans i)
 
 -- "if it holds `<!--[`: in a fence, problem 1; in an open region and trimmed to `<!--[/]-->`, the region closes"
 unfoldable pub marked_kind : Bool → Bool → ℕ → List ℕ → Option ℕ → Kind
 marked_kind fence inside o l None = Plain
 marked_kind fence inside o l (Some i) =
-    cond fence (Fault 1)
+    cond fence (Fault MarkerInFence)
     (cond (inside && equals CLOSE (trim l)) Closes
     (fragment_kind inside i l (fragment_of o l)))
 

@@ -1,8 +1,8 @@
 #![tactic(auto)]
 
 // The table of marks. An anchor's number has three places in it. A mark there tells of a file that has an anchor with such a number, by the file's number and
-// a print of the anchor's, or is MANY. So what stands at all three tells whether another file can have an anchor of that number; the table spares work
-// and decides nothing.
+// a print of the anchor's, or is MANY; 0 stands where none does, since the table is bytes that are cleared first. So what stands at all three tells whether
+// another file can have an anchor of that number; the table spares work and decides nothing.
 ghost use Rattle.std.specs.Prelude.{◌≡◌, ◌≤◌, ◌<◌, length};
 ghost use Rattle.marks.specs.Marks.{Mark, Marks, mark_of, print_of};
 

@@ -1,4 +1,5 @@
 -- Laws of headings among the lines kept: lines that are none, passed one after the other. Assumes nothing.
+use Rattle.std.specs.Prelude.{Option, Some, None}
 use Prim.Native.Nat.{ℕ, zero, suc, ◌+◌, ◌≤◌, ◌<◌}
 use native.Mathlib.Omega.{arith}
 use mathlib.Core.Path.{◌≡◌, refl, sym, ap, ◌∙◌, subst}
@@ -8,7 +9,6 @@ use lib.ListN.{length, length-append}
 use Rattle.text.specs.Bytes.{part}
 use Rattle.text.proofs.BytesLaws.{part_full}
 use Rattle.fence.specs.declared.Fence.{Fence}
-use Rattle.fence.specs.declared.Fence.TheVariants.{Outside, Ticks, Tildes}
 use Rattle.heading.specs.Walk.{still_kind}
 use Rattle.heading.specs.declared.walk.LineKind.{LineKind}
 use Rattle.heading.specs.declared.walk.LineKind.TheVariants.{Quoted, Heading, Other}
@@ -67,10 +67,9 @@ passed-plain {s} {from} {c} {d} {a} {e} {k} p l q =
     }
 
 -- lines passed over by their first bytes
-pub still-plain : (f : Fence) → IsPlain (still_kind f)
-still-plain Outside = tt
-still-plain Ticks = tt
-still-plain Tildes = tt
+pub still-plain : (f : Option Fence) → IsPlain (still_kind f)
+still-plain None = tt
+still-plain (Some f) = tt
 
 pub passed-still : {s : List ℕ} {u : Bool} {from c d : LineCursor} {m n : ℕ} → NoHeadings s from c → PassedTo s u c m d n → NoHeadings s from d
 unfolding PassedLines

@@ -6,8 +6,8 @@ use mathlib.Core.Bool.{Bool, true, false, cond}
 use mathlib.Core.List.{List, [], ◌∷◌}
 use lib.ListN.{length, take, drop, length-drop}
 use lib.Seq.{length-take-le, take-length, take-take}
-use lib.Dec.{eqb}
-use borrow.Author.Tests.{le-leb, lt-leb, eqb-true}
+use lib.Dec.{eqb, leb}
+use borrow.Author.Tests.{le-leb, lt-leb, leb-true, eqb-true}
 use Rattle.text.specs.Bytes.{part, is, first}
 use Rattle.text.specs.Lines.{LF, pieces, pieces_after}
 use Rattle.text.proofs.BytesLaws.{first_le, drop_take, part_full}
@@ -71,6 +71,37 @@ module _ (s : List ℕ) (a e : ℕ) (ls : List (List ℕ)) (h : a ≤ e) (i : e 
       line_first (take n s) a e h (omega arith) (omega (arith, piece-end, ap (first (is LF)) (drop_take s a n)))
       ∙ ap (λ (u : List ℕ). u ∷ lines_on (e + 1) (take n s)) q
 
+-- the line that is left first
+pub record LineAt (s : List ℕ) (a : ℕ) (x : List ℕ) (ls : List (List ℕ)) : Type 0 where
+  pub within : a + length x ≤ length s
+  pub whole : x ≡ part a (a + length x) s
+  pub first : pieces (drop a s) ≡ part a (a + length x) s ∷ ls
+  pub left : lines_on (a + length x + 1) s ≡ ls
+
+module _ (s : List ℕ) (a : ℕ) {x : List ℕ} {ls : List (List ℕ)} (q : lines_on a s ≡ x ∷ ls) where
+  on-text : a ≤ length s
+  on-text = go (leb a (length s)) refl q
+    where
+      go : (b : Bool) → leb a (length s) ≡ b → cond b (pieces (drop a s)) [] ≡ x ∷ ls → a ≤ length s
+      go true e r = leb-true a (length s) e
+      go false e r = absurd (omega (arith, ap length r))
+
+  pub line_at : LineAt s a x ls
+  line_at =
+      let e : ℕ = a + first (is LF) (drop a s) in
+      let h : a ≤ length s = on-text in
+      let w : e ≤ length s = omega (arith, first_le (is LF) (drop a s), length-drop a s) in
+      let y : x ∷ ls ≡ part a e s ∷ lines_on (e + 1) s = sym q ∙ line_first s a e (omega arith) w refl in
+      let i : x ≡ part a e s = cc in
+      let j : ls ≡ lines_on (e + 1) s = cc in
+      let k : a + length x ≡ e = omega (arith, ap length i, part_full s a e w) in
+      record {
+        within = rw k w;
+        whole = rw k i;
+        first = rw k (sym (lines_on_lem s a h) ∙ q ∙ ap (λ (u : List ℕ). u ∷ ls) i);
+        left = rw k (sym j);
+      }
+
 -- a line that is dropped, and one that is kept
 module _ (within : Bool) {l : List ℕ} {ks ls : List (List ℕ)} (p : ks ≡ l ∷ ls) where
   pub without_drop : drops within l ≡ true → without_contents within ks ≡ without_contents true ls
@@ -91,11 +122,11 @@ pub kept-none : (s : List ℕ) (a : ℕ) → a ≤ suc (length s) → Kept s a a
 kept-none s a h = record { order = omega arith; inside = h; same = λ n i j. refl }
 
 -- none is left
-pub kept-end : {s : List ℕ} {a : ℕ} {within : Bool} (c : LineCursor) → Kept s c.at a within → length s < a → left_of c s ≡ []
+pub kept-end : {s : List ℕ} {a : ℕ} {within : Bool} (c : LineCursor) → Kept s c.at a within → lines_on a s ≡ [] → left_of c s ≡ []
 unfolding without_contents told_from
 kept-end {s} {a} {within} c k h =
     let e = rw (take-length s) at (k.same (length s) k.inside (omega arith)) in
-    ap (told_from c.state) (sym e ∙ ap (without_contents within) (lines-off s a h))
+    ap (told_from c.state) (sym e ∙ ap (without_contents within) h)
 
 -- the line that stands from a up to e
 module _ {s : List ℕ} {a : ℕ} {within : Bool} (from e : ℕ) (k : Kept s from a within)

@@ -15,7 +15,7 @@ pub struct LineCursor {
     pub state: WalkState,
 }
 
-// A line by its ends, with what it is and the cursor behind it, or that none is left.
+// A line by its ends, with what it is and the cursor behind it.
 #[derive(Clone, Copy)]
 pub struct KeptLine {
     pub start: usize,
@@ -58,12 +58,12 @@ fn last_end(old: usize, at: usize, end: usize) -> usize
     if at < end { end } else { old }
 }
 
-// The line that starts at a place, by its first byte. In an unlinked one no `]` stands.
+// Where the line ends that starts at a place, if its first byte tells it to be such a line; None behind the last byte too. In an unlinked one no `]`
+// stands.
 fn still_line(s: &[u8], at: usize, unlinked: bool) -> Option<usize>
-    requires { at < length s.now }
     ensures { FoundStill s.now at unlinked result }
 {
-    let first = s[at];
+    let first = *s.get(at)?;
     if first == b'\n' {
         return Some(at);
     }
@@ -91,10 +91,7 @@ pub fn pass(s: &[u8], from: LineCursor, end: usize, unlinked: bool) -> Passed
         return Passed { behind: from, end };
     }
     let mut last = end;
-    while at < s.len() {
-        let Some(stop) = still_line(s, at, unlinked) else {
-            break;
-        };
+    while let Some(stop) = still_line(s, at, unlinked) {
         last = last_end(last, at, stop);
         at = stop + 1;
         line += 1;
@@ -105,16 +102,15 @@ pub fn pass(s: &[u8], from: LineCursor, end: usize, unlinked: bool) -> Passed
     }
 }
 
-// The next line kept from a cursor on.
+// The next line kept from a cursor on; None where none is left.
 pub fn next_line(s: &[u8], from: LineCursor) -> Option<KeptLine>
     requires { CursorIn from s.now }
     ensures { FoundLine s.now from result }
 {
     let mut start = from.at;
     let mut within = false;
-    while start <= s.len() {
-        let end = lines::piece(s, start).end;
-        let text = &s[start..end];
+    for text in lines::pieces(s.get(start..)?) {
+        let end = start + text.len();
         within = contents::drops(within, text);
         if !within {
             let step = heading::walk::step(from.state, text);
@@ -134,7 +130,7 @@ pub fn next_line(s: &[u8], from: LineCursor) -> Option<KeptLine>
     None
 }
 
-// The next heading from a cursor on.
+// The next heading from a cursor on; None where none is left.
 pub fn next_heading(s: &[u8], from: LineCursor) -> Option<KeptHeading>
     requires { CursorIn from s.now }
     ensures { FoundHeading s.now from result }

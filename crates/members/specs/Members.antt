@@ -1,6 +1,6 @@
 -- The members of an assembly, by what is known of each. Nothing here is document 01's: functions promise it, and the laws of `proofs/` tie it to the members.
-use Rattle.std.specs.Prelude.{ℕ, zero, suc, ◌+◌, ◌*◌, ◌-◌, ◌≤◌, ◌<◌, ◌≡◌, List, [], ◌∷◌, eqb, length, get_or, Option, Some, None}
-use Rattle.text.specs.Bytes.{part, bit}
+use Rattle.std.specs.Prelude.{ℕ, ◌+◌, ◌-◌, ◌≤◌, ◌≡◌, List, length, map, All}
+use Rattle.text.specs.Bytes.{part}
 use Rattle.index.specs.Index.{File, file_of}
 use Rattle.put.specs.Put.{source_text, Inside, part_of}
 use Rattle.put.specs.declared.Source.{Source}
@@ -8,33 +8,6 @@ use Rattle.member.specs.Member.{Prepared}
 use Rattle.member.specs.Lines.{kept_lines}
 use Rattle.outline.specs.Outline.{IsOutline}
 use Rattle.members.specs.declared.Member.{Member}
-
--- a level as a number, 0 for none
-abbrev pub top_number : Option ℕ → ℕ
-top_number (Some n) = n
-top_number None = 0
-
-abbrev pub top_of : ℕ → Option ℕ
-top_of zero = None
-top_of (suc n) = Some (suc n)
-
--- what the numbers say of member i, counted from 0
-abbrev pub member_at : List ℕ → ℕ → Member
-member_at set i = record {
-  name = record { start = get_or set (11 * i) 0; end = get_or set (11 * i + 1) 0 };
-  file = get_or set (11 * i + 2) 0;
-  source = record { work = eqb (get_or set (11 * i + 3) 0) 1; start = get_or set (11 * i + 4) 0; end = get_or set (11 * i + 5) 0 };
-  outline = record {
-    end = get_or set (11 * i + 6) 0;
-    title = record { start = get_or set (11 * i + 7) 0; end = get_or set (11 * i + 8) 0 };
-    levels = record { top = top_of (get_or set (11 * i + 9) 0); deepest = get_or set (11 * i + 10) 0 };
-  };
-}
-
-abbrev pub numbers_of : Member → List ℕ
-numbers_of m =
-    m.name.start ∷ m.name.end ∷ m.file ∷ bit m.source.work ∷ m.source.start ∷ m.source.end ∷ m.outline.end ∷ m.outline.title.start ∷ m.outline.title.end
-    ∷ top_number m.outline.levels.top ∷ m.outline.levels.deepest ∷ []
 
 -- where its lines lie, up to the last that is not blank; and its title's text
 abbrev pub text_source : Member → Source
@@ -58,14 +31,12 @@ prepared_in index contents work m = record {
   title = source_text (title_source m) contents work;
 }
 
--- of n members from member i on
-unfoldable pub files_from : List ℕ → List ℕ → List ℕ → List ℕ → ℕ → ℕ → List File
-files_from index contents work set i zero = []
-files_from index contents work set i (suc n) = file_in index contents work (member_at set i) ∷ files_from index contents work set (i + 1) n
+-- of members in order
+abbrev pub all_files : List ℕ → List ℕ → List ℕ → List Member → List File
+all_files index contents work ms = map (file_in index contents work) ms
 
-unfoldable pub prepared_from : List ℕ → List ℕ → List ℕ → List ℕ → ℕ → ℕ → List Prepared
-prepared_from index contents work set i zero = []
-prepared_from index contents work set i (suc n) = prepared_in index contents work (member_at set i) ∷ prepared_from index contents work set (i + 1) n
+abbrev pub all_prepared : List ℕ → List ℕ → List ℕ → List Member → List Prepared
+all_prepared index contents work ms = map (prepared_in index contents work) ms
 
 -- a member lies in its buffers: an index of so many bytes, the contents, and a work buffer from the limit up to a place
 pub record Lies (index contents limit stop : ℕ) (m : Member) : Type 0 where
@@ -83,17 +54,27 @@ pub record Stands (index contents limit stop : ℕ) (m : Member) : Type 0 where
   pub order : m.outline.title.start ≤ m.outline.title.end
   pub title : m.outline.title.end ≤ m.outline.end
 
--- so do n members, of which two with one number have one name
-pub record AllLie (index : List ℕ) (contents limit stop : ℕ) (set : List ℕ) (n : ℕ) : Type 0 where
-  pub few : n ≤ 64
-  pub lie : (i : ℕ) → i < n → Lies (length index) contents limit stop (member_at set i)
-  pub same : (i j : ℕ) → i < n → j < n → (member_at set i).file ≡ (member_at set j).file → name_of index (member_at set i) ≡ name_of index (member_at set j)
+-- two members with one number have one name
+abbrev pub Agree : List ℕ → Member → Member → Type 0
+Agree index m q = m.file ≡ q.file → name_of index m ≡ name_of index q
 
-pub record AllStand (index : List ℕ) (contents limit stop : ℕ) (set : List ℕ) (n : ℕ) : Type 0 where
-  pub few : n ≤ 64
-  pub stand : (i : ℕ) → i < n → Stands (length index) contents limit stop (member_at set i)
-  pub same : (i j : ℕ) → i < n → j < n → (member_at set i).file ≡ (member_at set j).file → name_of index (member_at set i) ≡ name_of index (member_at set j)
+abbrev pub OneName : List ℕ → List Member → Type 0
+OneName index ms = All (λ m. All (Agree index m) ms) ms
 
--- what is known of n members is their outline
-pub record AllKnown (contents work set : List ℕ) (n : ℕ) : Type 0 where
-  pub known : (i : ℕ) → i < n → IsOutline (source_text (member_at set i).source contents work) (member_at set i).outline
+-- so do all members of an assembly
+pub record AllLie (index : List ℕ) (contents limit stop : ℕ) (ms : List Member) : Type 0 where
+  pub few : length ms ≤ 64
+  pub lie : All (Lies (length index) contents limit stop) ms
+  pub same : OneName index ms
+
+pub record AllStand (index : List ℕ) (contents limit stop : ℕ) (ms : List Member) : Type 0 where
+  pub few : length ms ≤ 64
+  pub stand : All (Stands (length index) contents limit stop) ms
+  pub same : OneName index ms
+
+-- what is known of each member is its outline
+abbrev pub IsKnown : List ℕ → List ℕ → Member → Type 0
+IsKnown contents work m = IsOutline (source_text m.source contents work) m.outline
+
+abbrev pub AllKnown : List ℕ → List ℕ → List Member → Type 0
+AllKnown contents work ms = All (IsKnown contents work) ms

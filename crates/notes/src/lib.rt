@@ -3,11 +3,14 @@
 // Reads what arguments name into buffers, and makes the index of the notes. What fails is said on standard error.
 ghost use Rattle.std.specs.Prelude.{◌+◌, ◌≤◌, length, IfOk, IfSome};
 
-use station::{failed, record, shown};
+use station::failed::Words;
+use station::note::{Note, Notes};
+use station::{argument, failed, input, record};
 use std::env::Env;
+use std::fmt::Display;
 use std::fs::Files;
 use std::io::{ErrorKind, Read, Write};
-use std::{fs, io, str};
+use std::{fmt, fs, io, str};
 
 pub mod buffers;
 
@@ -24,24 +27,25 @@ impl From<io::Error> for Unread {
     }
 }
 
+impl Display for Unread {
+    fn fmt<W: fmt::Write>(&self, f: &mut fmt::Formatter<W>) -> fmt::Result {
+        match *self {
+            Unread::Failed(error) => write!(f, "{}", Words(error)),
+            Unread::TooLarge => f.write_str("there is no room left for it"),
+        }
+    }
+}
+
 // Reads a file to its end into a buffer, from a place on, and answers where it ends there.
 fn read_all(from: &mut impl Read, buf: &mut [u8], at: usize) -> Result<usize, Unread>
     requires { at ≤ length buf.old }
     ensures { IfOk result (λ end. (at ≤ end) × (end ≤ length buf.old)) }
 {
-    let mut end = at;
-    while end < buf.len() {
-        let n = from.read(&mut buf[end..])?;
-        if n == 0 {
-            return Ok(end);
-        }
-        end += n;
+    let end = at + input::read_full(from, &mut buf[at..])?;
+    if end == buf.len() && from.read(&mut [0u8; 1])? != 0 {
+        return Err(Unread::TooLarge);
     }
-    if from.read(&mut [0u8; 1])? == 0 {
-        Ok(end)
-    } else {
-        Err(Unread::TooLarge)
-    }
+    Ok(end)
 }
 
 // Opens a file by its name and reads it to its end into a buffer, from a place on.
@@ -58,25 +62,8 @@ fn read_named(files: &impl Files, name: &[u8], buf: &mut [u8], at: usize) -> Res
     read_all(&mut fs::open(files, path)?, buf, at)
 }
 
-// Says why a file was not read.
-fn say_unread(to: &mut impl Write, name: &[u8], unread: Unread) -> io::Result<()> {
-    match unread {
-        Unread::Failed(error) => failed::say_failed(to, name, error),
-        Unread::TooLarge => {
-            to.write_all(name)?;
-            to.write_all(b": there is no room left for it\n")
-        }
-    }
-}
-
-// Says that an argument, counted from 1, is no name.
-fn say_no_name(to: &mut impl Write, i: usize) -> io::Result<()> {
-    to.write_all(b"stationbook: the name in argument ")?;
-    write!(to, "{i}")?;
-    to.write_all(b" is empty or too long\n")
-}
-
-// Reads the file that an argument names into a buffer, from a place on, and answers where it ends there. What fails is said on a writer.
+// Reads the file that an argument names into a buffer, from a place on, and answers where it ends there. None where that fails, which is
+// said on a writer.
 pub fn read_argument<R: Env + Files>(
     rt: &R,
     to: &mut impl Write,
@@ -87,16 +74,18 @@ pub fn read_argument<R: Env + Files>(
     requires { at ≤ length buf.old }
     ensures { IfSome result (λ end. (at ≤ end) × (end ≤ length buf.old)) }
 {
-    let mut name = [0u8; 4096];
-    let n = rt.arg(i, &mut name).unwrap_or(0);
-    if n == 0 {
-        let _ = say_no_name(to, i);
+    let mut room = [0u8; 4096];
+    let name = argument::read(rt, i, &mut room);
+    if name.is_empty() {
+        let _ = writeln!(
+            to,
+            "stationbook: the name in argument {i} is empty or too long"
+        );
         return None;
     }
-    let read = read_named(rt, &name[..n], buf, at);
+    let read = read_named(rt, name, buf, at);
     if let Err(unread) = read {
-        shown::show(&mut name);
-        let _ = say_unread(to, &name[..n], unread);
+        let _ = failed::say(to, argument::read_shown(rt, i, &mut room), unread);
     }
     read.ok()
 }
@@ -114,10 +103,10 @@ fn put_record(
     requires { at + 298 ≤ length index.old }
     ensures { result ≤ at + 298 }
 {
-    let mut name = [0u8; 255];
-    let n = env.arg(i, &mut name).unwrap_or(0);
-    let kept = if index::name::is_name(&name[..n]) {
-        n
+    let mut room = [0u8; 255];
+    let name = argument::read(env, i, &mut room);
+    let kept = if index::name::is_name(name) {
+        name.len()
     } else {
         0
     };
@@ -125,7 +114,7 @@ fn put_record(
 }
 
 // Reads the note that an argument names. One whose name is not UTF-8 can't be opened, and is read as an empty one: its record has no name,
-// which refusal 1 tells.
+// which refusal 1 tells. None where reading fails.
 fn read_note<R: Env + Files>(
     rt: &R,
     to: &mut impl Write,
@@ -136,16 +125,15 @@ fn read_note<R: Env + Files>(
     requires { at ≤ length buf.old }
     ensures { IfSome result (λ end. (at ≤ end) × (end ≤ length buf.old)) }
 {
-    let mut name = [0u8; 4096];
-    let n = rt.arg(i, &mut name).unwrap_or(0);
-    if str::from_utf8(&name[..n]).is_err() {
+    let mut room = [0u8; 4096];
+    if str::from_utf8(argument::read(rt, i, &mut room)).is_err() {
         return Some(at);
     }
     read_argument(rt, to, i, buf, at)
 }
 
 // Reads the notes that so many arguments from one on name, one behind the other, and makes their index. Answers where the index ends, and
-// where each note ends in the contents, behind a 0 for the first one's start.
+// where each note lies in the contents. None where one can't be read.
 pub fn read_notes<R: Env + Files>(
     rt: &R,
     to: &mut impl Write,
@@ -153,18 +141,19 @@ pub fn read_notes<R: Env + Files>(
     count: usize,
     index: &mut [u8],
     contents: &mut [u8],
-    starts: &mut [usize; 65],
+    notes: &mut Notes,
 ) -> Option<usize>
     requires { (first ≤ 7) × ((count ≤ 64) × (19072 ≤ length index.old)) }
     ensures { IfSome result (λ end. end ≤ length index.old) }
 {
+    notes.clear();
     let mut indexed = 0;
     let mut end = 0;
     for k in 0..count {
         let start = end;
         end = read_note(rt, to, first + k, contents, start)?;
         indexed = put_record(rt, first + k, index, indexed, start, end - start);
-        starts[k + 1] = end;
+        let _ = notes.try_push(Note { start, end });
     }
     Some(indexed)
 }

@@ -1,31 +1,12 @@
 -- What stands before a region's file, for the functions. Nothing here is document 01's: inner functions promise it, and the laws of `filling` tie it to the walk.
-use Rattle.std.specs.Prelude.{ℕ, ◌+◌, ◌≤◌, Bool, cond, List, ltb, take, Result, Ok, Err}
+use Rattle.std.specs.Prelude.{ℕ, ◌≤◌, Bool, cond, List, ltb, take, Result, Ok, Err}
 use Rattle.opening.specs.declared.Opened.{Opened}
 use Rattle.answer.specs.declared.Place.{Place}
 use Rattle.answer.specs.declared.Refusal.{Refusal}
 use Rattle.answer.specs.declared.Refusal.TheVariants.{PeerWithoutHeading, Allowance}
-use Rattle.index.specs.Index.{File, files_from}
-use Rattle.index.specs.Rows.{records_in, AreNamed, AreWithin}
 use Rattle.regions.specs.declared.host.Opening.{Opening}
-use Rattle.index.specs.declared.rows.Row.{Row}
 use Rattle.insertion.specs.Insertion.{Joined, joined, stopped, tested}
 use Rattle.chains.specs.Chains.{Next, stop, on}
-
--- the file set that n rows tell of
-abbrev pub files_in : List ℕ → List ℕ → List ℕ → ℕ → List File
-files_in index rows contents n = files_from 1 contents (records_in index rows 0 n)
-
--- n rows that tell of files in contents of so many bytes
-pub record Ready (index rows : List ℕ) (room n : ℕ) : Type 0 where
-  pub few : n ≤ 64
-  pub named : AreNamed index rows n
-  pub within : AreWithin room rows n
-
--- the row of a file: its name lies in an index of k bytes, and its text in contents of so many bytes
-pub record Lies (k room : ℕ) (r : Row) : Type 0 where
-  pub forward : r.name ≤ r.end
-  pub within : r.end ≤ k
-  pub fits : r.start + r.size ≤ room
 
 -- 13, 14, then 15, where n files are taken in before
 abbrev pub named_of : ℕ → ℕ → Place → Next → Result ℕ Refusal
@@ -59,10 +40,8 @@ entry_of L p headless t r = joined_entry (tested L p t) (λ u. cond headless (ba
 
 -- ---- what callers have to show
 
--- a region can be opened: the rows can be read, the block and the path lie in a host of k bytes, and the limit in a buffer of w bytes
-pub record CanOpen (index rows : List ℕ) (n k from : ℕ) (o : Opening) (len limit w : ℕ) : Type 0 where
-  pub few : n ≤ 64
-  pub named : AreNamed index rows n
+-- a region can be opened: the block and the path lie in a host of k bytes, and the limit in a buffer of w bytes
+pub record CanOpen (k from : ℕ) (o : Opening) (len limit w : ℕ) : Type 0 where
   pub forward : from ≤ o.end
   pub within : o.end ≤ k
   pub path_forward : o.path.start ≤ o.path.end

@@ -1,24 +1,31 @@
 #![tactic(auto)]
 
 // What stands before a region's file: the host's bytes through the opener's line, and the file that the region names.
-ghost use Rattle.std.specs.Prelude.{◌≡◌, List, ◌++◌, ℕ, ◌≤◌, length, take};
+ghost use Rattle.std.specs.Prelude.{◌≡◌, ◌++◌, ◌≤◌, length, take};
 ghost use Rattle.chains.specs.Chains.{next_named};
 ghost use Rattle.answer.specs.Answer.{place};
 ghost use Rattle.text.specs.Bytes.{part};
-ghost use Rattle.index.specs.Rows.{AreNamed};
+ghost use Rattle.index.specs.FileSets.{files_of};
 ghost use Rattle.insertion.specs.Insertion.{read_inserted, Within, tested};
-ghost use Rattle.opening.specs.Opening.{files_in, named_of, read_opened, OpenedWithin, entry_of, CanOpen};
+ghost use Rattle.opening.specs.Opening.{named_of, read_opened, OpenedWithin, entry_of, CanOpen};
 
 use answer::{Place, Refusal};
-use index::rows;
+use index::file_set::FileSet;
 use regions::host::Opening;
 use text::pattern;
 
-// The file's number for places, how many records there are, the limit, the allowance, and how many files were taken in before.
+// A chain of files: the set, the name that the chain started with, and a mark for each file that was taken in since.
+#[derive(Clone, Copy)]
+pub struct Chain<'a> {
+    pub files: FileSet<'a>,
+    pub top: &'a [u8],
+    pub marks: [bool; 64],
+}
+
+// The file's number for places, the limit, the allowance, and how many files were taken in before.
 #[derive(Clone, Copy)]
 pub struct Filling {
     pub number: usize,
-    pub count: usize,
     pub limit: usize,
     pub allowance: usize,
     pub used: usize,
@@ -33,24 +40,14 @@ pub struct Opened {
 
 // The file that a name leads to: 13, 14, then 15.
 #[tactic(auto, using(crate::proofs::FilesLaws::leads))]
-fn named_file(
-    index: &[u8],
-    rows: &[usize; 256],
-    top: &[u8],
-    marks: [bool; 64],
-    name: &[u8],
-    opener: Place,
-    at: Filling,
-) -> Result<usize, Refusal>
-    requires { (at.count ≤ 64) × AreNamed index.now rows.now at.count }
-    ensures { (contents : List ℕ) → result ≡ named_of at.allowance at.used opener
-        (next_named (files_in index.now rows.now contents at.count) top.now marks opener name.now) }
+fn named_file(chain: Chain, name: &[u8], opener: Place, at: Filling) -> Result<usize, Refusal>
+    ensures { result ≡ named_of at.allowance at.used opener (next_named (files_of chain.entry.files) chain.entry.top.now chain.entry.marks opener name.now) }
 {
-    if pattern::equals(name, top) {
+    if pattern::equals(name, chain.top) {
         return Err(Refusal::OnChain(opener));
     }
-    let file = rows::find(index, rows, at.count, name).ok_or(Refusal::Absent(opener))?;
-    if marks[file] {
+    let file = chain.files.find(name).ok_or(Refusal::Absent(opener))?;
+    if chain.marks[file] {
         return Err(Refusal::OnChain(opener));
     }
     if at.allowance <= at.used {
@@ -79,10 +76,7 @@ pub fn put_block(
 
 // What comes before a region's file: the host's bytes through the opener's line, with 17; 12; the file, with 13, 14 and 15.
 pub fn open_region(
-    index: &[u8],
-    rows: &[usize; 256],
-    top: &[u8],
-    marks: [bool; 64],
+    chain: Chain,
     s: &[u8],
     from: usize,
     o: Opening,
@@ -90,10 +84,10 @@ pub fn open_region(
     len: usize,
     work: &mut [u8],
 ) -> Result<Opened, Refusal>
-    requires { CanOpen index.now rows.now at.count (length s.now) from o len at.limit (length work.old) }
-    ensures by_index { (contents : List ℕ) → read_opened result work.new ≡ entry_of at.limit (place at.number o.line) o.headless (take len work.old ++ part from o.end s.now)
+    requires { CanOpen (length s.now) from o len at.limit (length work.old) }
+    ensures opened { read_opened result work.new ≡ entry_of at.limit (place at.number o.line) o.headless (take len work.old ++ part from o.end s.now)
         (named_of at.allowance at.used (place at.number o.line)
-        (next_named (files_in index.now rows.now contents at.count) top.now marks (place at.number o.line) (part o.path.start o.path.end s.now))) }
+        (next_named (files_of chain.entry.files) chain.entry.top.now chain.entry.marks (place at.number o.line) (part o.path.start o.path.end s.now))) }
     ensures opened_within { OpenedWithin result at.limit }
 {
     let opener = Place {
@@ -105,6 +99,6 @@ pub fn open_region(
         return Err(Refusal::PeerWithoutHeading(opener));
     }
     let name = &s[o.path.start..o.path.end];
-    let file = named_file(index, rows, top, marks, name, opener, at)?;
+    let file = named_file(chain, name, opener, at)?;
     Ok(Opened { file, length })
 }

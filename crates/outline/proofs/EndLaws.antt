@@ -1,5 +1,5 @@
 -- Laws of blank lines at the end of told lines: a line more, and what is prepared of the lines kept. Assumes nothing.
-use Rattle.std.specs.Prelude.{None}
+use Rattle.std.specs.Prelude.{Option, None}
 use Prim.Native.Nat.{ℕ, zero, suc, ◌≤◌}
 use native.Mathlib.Omega.{arith}
 use mathlib.Core.Path.{◌≡◌, refl, sym, ap, ◌∙◌, subst}
@@ -65,10 +65,10 @@ module _ (ts : List Told) (t : Told) where
       take_all (up_to (bytes_of (ts ++ (t ∷ [])))) (ts ++ (t ∷ [])) (omega (arith, length-append ts (t ∷ []), length-map ts (λ (u : Told). u.bytes)))
 
 -- a blank line is no heading
-blank_plain : (f : Fence) (c : Bool) (l : List ℕ) → is_blank l ≡ true → IsPlain (step_kind f c l)
+blank_plain : (f : Option Fence) (c : Bool) (l : List ℕ) → is_blank l ≡ true → IsPlain (step_kind f c l)
 blank_plain f c l e = subst IsPlain (sym (blank_kind f c l e)) (still-plain f)
 
-pub heading-shown : (f : Fence) (c : Bool) (l : List ℕ) {n x y : ℕ} → Heading n x y ≡ step_kind f c l → is_blank l ≡ false
+pub heading-shown : (f : Option Fence) (c : Bool) (l : List ℕ) {n x y : ℕ} → Heading n x y ≡ step_kind f c l → is_blank l ≡ false
 heading-shown f c l {n} {x} {y} q = go (is_blank l) refl
   where
     go : (b : Bool) → is_blank l ≡ b → b ≡ false

@@ -1,7 +1,6 @@
 -- Laws for the loop that prepares a member: the lines kept so far, the title and the levels among them, and where those that are not blank end.
 -- Assumes nothing.
-use Rattle.std.specs.Prelude.{None, Some}
-use Rattle.std.specs.Bool.{then_some}
+use Rattle.std.specs.Prelude.{Option, None, Some, is_some}
 use Prim.Native.Nat.{ℕ, zero, suc, ◌+◌, ◌^◌, ◌≤◌, ◌<◌}
 use native.Mathlib.Omega.{arith}
 use mathlib.Core.Path.{◌≡◌, refl, sym, ap, ◌∙◌, subst}
@@ -14,21 +13,20 @@ use Rattle.text.specs.Bytes.{part}
 use Rattle.text.specs.Space.{is_blank}
 use Rattle.heading.specs.Level.{shallowest_of, deepest_of, IsLevel}
 use Rattle.fence.specs.declared.Fence.{Fence}
-use Rattle.fence.specs.declared.Fence.TheVariants.{Outside, Ticks, Tildes}
 use Rattle.heading.specs.Walk.{walk_begin, still_kind}
 use Rattle.heading.specs.declared.walk.LineKind.{LineKind}
 use Rattle.heading.specs.declared.walk.LineKind.TheVariants.{Quoted, Heading, Other}
 use Rattle.heading.proofs.WalkLaws.{kind-within}
-use Rattle.shift.specs.Levels.{HasLevel}
+use Rattle.shift.specs.Levels.{HasLevel, top_in, deepest_in}
 use Rattle.shift.specs.Shift.{Told, told_from, kinds_of}
 use Rattle.shift.proofs.LevelsLaws.{step-level, Found, found_turn}
 use Rattle.text.proofs.BytesLaws.{part_full}
 use Rattle.text.proofs.PartLaws.{part-part}
-use Rattle.member.specs.Member.{without_contents, prepared_lines, title_of, movable}
+use Rattle.member.specs.Member.{without_contents, title_of, movable}
 use Rattle.member.specs.Lines.{kept_lines, left_of, at_first, CursorIn, IsLine}
-use Rattle.outline.specs.Outline.{FoundOutline, IsOutline, moved_kinds}
+use Rattle.outline.specs.Outline.{FoundOutline, moved_kinds}
 use Rattle.member.specs.Passed.{PassedLines, PassedTo}
-use Rattle.outline.specs.Seen.{titled_by, moved_kind, title_at, Placed, SeenWith, ended_at}
+use Rattle.outline.specs.Seen.{titled_by, moved_kind, title_at, Placed, SeenWith}
 use Rattle.member.specs.declared.lines.LineCursor.{LineCursor}
 use Rattle.text.specs.declared.part.Part.{Part}
 use Rattle.outline.specs.declared.Seen.{Seen}
@@ -79,9 +77,21 @@ pub record Entitled (s : List ℕ) (ts : List Told) (at e : ℕ) (x : Part) : Ty
   pub forward : x.start ≤ x.end
   pub inside : x.end ≤ e
 
-abbrev HasSeen : List ℕ → List Told → LineCursor → Bool → ℕ → Part → Type 0
-HasSeen s ts c true e x = Entitled s ts c.at e x
-HasSeen s ts c false e x = title_of (kept_lines s) ≡ title_of (left_of c s)
+abbrev HasSeen : List ℕ → List Told → LineCursor → ℕ → Option Part → Type 0
+HasSeen s ts c e None = title_of (kept_lines s) ≡ title_of (left_of c s)
+HasSeen s ts c e (Some x) = Entitled s ts c.at e x
+
+titled_some : (o : Option Part) (a : ℕ) (k : LineKind) → is_some (title_at o a k) ≡ titled_by (is_some o) k
+titled_some None a Quoted = refl
+titled_some (Some p) a Quoted = refl
+titled_some None a Other = refl
+titled_some (Some p) a Other = refl
+titled_some (Some p) a (Heading n x y) = refl
+titled_some None a (Heading n x y) = go (eqb n 1)
+  where
+    go : (b : Bool) → is_some {T = Part} (cond b (Some (record { start = a + x; end = a + y })) None) ≡ b
+    go true = refl
+    go false = refl
 
 -- one line more
 module _ {s : List ℕ} {c d : LineCursor} {a e : ℕ} (ts : List Told) (r : Reach s c ts) where
@@ -126,32 +136,31 @@ module _ {s : List ℕ} {c d : LineCursor} {a e : ℕ} (ts : List Told) (r : Rea
         inside = omega (arith, l.forward);
       })
 
-  seen-line : (t : Bool) (k : LineKind) (m : ℕ) (x : Part) (l : IsLine s c a e k d) → HasSeen s ts c t m x
-      → HasSeen s (ts ++ (line l ∷ [])) d (titled_by t k) (cond (is_blank (part a e s)) m e) (title_at t a k x)
-  seen-line true Quoted m x l h = entitled-line l h
-  seen-line true (Heading n i j) m x l h = entitled-line l h
-  seen-line true Other m x l h = entitled-line l h
-  seen-line false Quoted m x l h = h ∙ title_turn l.left
-  seen-line false Other m x l h = h ∙ title_turn l.left
-  seen-line false (Heading n i j) m x l h = go (eqb n 1) (h ∙ title_turn l.left)
+  seen-line : (o : Option Part) (k : LineKind) (m : ℕ) (l : IsLine s c a e k d) → HasSeen s ts c m o
+      → HasSeen s (ts ++ (line l ∷ [])) d (cond (is_blank (part a e s)) m e) (title_at o a k)
+  seen-line (Some x) Quoted m l h = entitled-line l h
+  seen-line (Some x) (Heading n i j) m l h = entitled-line l h
+  seen-line (Some x) Other m l h = entitled-line l h
+  seen-line None Quoted m l h = h ∙ title_turn l.left
+  seen-line None Other m l h = h ∙ title_turn l.left
+  seen-line None (Heading n i j) m l h = go (eqb n 1) (h ∙ title_turn l.left)
     where
       go : (b : Bool) → title_of (kept_lines s) ≡ cond b (Some (part i j (part a e s))) (title_of (left_of d s))
-          → HasSeen s (ts ++ (line l ∷ [])) d b (cond (is_blank (part a e s)) m e) (cond b (record { start = a + i; end = a + j }) x)
+          → HasSeen s (ts ++ (line l ∷ [])) d (cond (is_blank (part a e s)) m e) (cond b (Some (record { start = a + i; end = a + j })) None)
       go true q = entitled-first m l q
       go false q = q
 
--- what is seen of the lines before a cursor
-pub record Outlines (s : List ℕ) (c : LineCursor) (z : Seen) : Type 0 where
+-- what is seen of the lines before a cursor, of which those that are not blank end at place p
+pub record Outlines (s : List ℕ) (c : LineCursor) (z : Seen) (p : ℕ) : Type 0 where
   pub cursor : CursorIn c s
   pub told : List Told
   pub reach : Reach s c told
-  pub seen : HasSeen s told c z.titled z.outline.end z.outline.title
-  pub found : Found (moved_kinds s) (kinds_of (moved_from z.titled (left_of c s))) z.outline.levels.top z.outline.levels.deepest
-  pub level : IsLevel z.outline.levels.top
-  pub small : z.outline.levels.deepest ≤ 6
+  pub seen : HasSeen s told c p z.title
+  pub found : Found (moved_kinds s) (kinds_of (moved_from (is_some z.title) (left_of c s))) (top_in z.levels) (deepest_in z.levels)
+  pub level : IsLevel (top_in z.levels)
+  pub small : deepest_in z.levels ≤ 6
 
-pub outlines_none : (s : List ℕ) (c : LineCursor) → c ≡ at_first
-    → Outlines s c (record { titled = false; outline = record { end = 0; title = record { start = 0; end = 0 }; levels = record { top = None; deepest = 0 } } })
+outlines_none : (s : List ℕ) (c : LineCursor) → c ≡ at_first → Outlines s c (record { title = None; levels = None }) 0
 outlines_none s c e =
     rw e (record {
       cursor = omega arith;
@@ -166,52 +175,59 @@ outlines_none s c e =
       small = omega arith;
     })
 
-module _ {s : List ℕ} {c d : LineCursor} {z : Seen} {a e : ℕ} {k : LineKind} (o : Outlines s c z) (l : IsLine s c a e k d) where
-  line-level : HasLevel (moved_kind z.titled k)
-  line-level = moved_level z.titled k (subst HasLevel (sym l.kind) (step-level c.state.fence c.state.comment (part a e s)))
+module _ {s : List ℕ} {c d : LineCursor} {z : Seen} {a e p : ℕ} {k : LineKind} (o : Outlines s c z p) (l : IsLine s c a e k d) where
+  line-level : HasLevel (moved_kind (is_some z.title) k)
+  line-level = moved_level (is_some z.title) k (subst HasLevel (sym l.kind) (step-level c.state.fence c.state.comment (part a e s)))
 
   -- with one line more
-  pub outlines_line : {m : ℕ} {y : Seen} → SeenWith z a m k y → m ≡ cond (is_blank (part a e s)) z.outline.end e → Outlines s d y
+  outlines_line : {m : ℕ} {y : Seen} → SeenWith z a k y → m ≡ cond (is_blank (part a e s)) p e → Outlines s d y m
   outlines_line w q =
+      let t = is_some z.title in
       record {
         cursor = (line-next o.cursor l).0;
         told = o.told ++ (line l ∷ []);
         reach = reach-line l o.told o.reach;
-        seen = rw (w.titled, w.end, w.title, q) (seen-line o.told o.reach z.titled k z.outline.end z.outline.title l o.seen);
-        found = rw w.titled
-            (found_turn o.found (ap (λ (ts : List Told). kinds_of (moved_from z.titled ts)) l.left ∙ moved_turn z.titled (line l) (left_of d s)) w.top w.deepest);
-        level = subst IsLevel (sym w.top) (level-shallower z.outline.levels.top (moved_kind z.titled k) line-level o.level);
-        small = rw w.deepest (level-deeper z.outline.levels.deepest (moved_kind z.titled k) line-level o.small);
+        seen = rw (w.title, q) (seen-line o.told o.reach z.title k p l o.seen);
+        found = rw (ap is_some w.title ∙ titled_some z.title a k)
+            (found_turn o.found (ap (λ (ts : List Told). kinds_of (moved_from t ts)) l.left ∙ moved_turn t (line l) (left_of d s)) w.top w.deepest);
+        level = subst IsLevel (sym w.top) (level-shallower (top_in z.levels) (moved_kind t k) line-level o.level);
+        small = rw w.deepest (level-deeper (deepest_in z.levels) (moved_kind t k) line-level o.small);
       }
 
 -- with lines more that their first bytes tell
-still_seen : (f : Fence) (z : Seen) (a e : ℕ) → SeenWith z a e (still_kind f) (ended_at z e)
-still_seen Outside z a e = record { titled = refl; end = refl; title = refl; top = refl; deepest = refl }
-still_seen Ticks z a e = record { titled = refl; end = refl; title = refl; top = refl; deepest = refl }
-still_seen Tildes z a e = record { titled = refl; end = refl; title = refl; top = refl; deepest = refl }
+still_seen : (f : Option Fence) (z : Seen) (a : ℕ) → SeenWith z a (still_kind f) z
+still_seen None z a = record { title = refl; top = refl; deepest = refl }
+still_seen (Some f) z a = record { title = refl; top = refl; deepest = refl }
 
-pub outlines_still : {s : List ℕ} {u : Bool} {c d : LineCursor} {z y : Seen} {n : ℕ} → Outlines s c z → PassedTo s u c z.outline.end d n → y ≡ ended_at z n
-    → Outlines s d y
+outlines_still : {s : List ℕ} {u : Bool} {c d : LineCursor} {z : Seen} {p n : ℕ} → Outlines s c z p → PassedTo s u c p d n → Outlines s d z n
 unfolding PassedLines
-outlines_still {s} {u} {c} {d} {z} {y} {n} o h q = rw q (go h.count d n h.lines)
+outlines_still {s} {u} {c} {d} {z} {p} {n} o h = go h.count d n h.lines
   where
-    go : (i : ℕ) (d : LineCursor) (n : ℕ) → PassedLines i s u c z.outline.end d n → Outlines s d (ended_at z n)
+    go : (i : ℕ) (d : LineCursor) (n : ℕ) → PassedLines i s u c p d n → Outlines s d z n
     go zero d n k = rw (k.0, k.1) o
-    go (suc i) d n (x, e, k, l) = outlines_line (go i x e k) l.line (still_seen x.state.fence (ended_at z e) x.at n) l.end
+    go (suc i) d n (x, e, k, l) = outlines_line (go i x e k) l.line (still_seen x.state.fence z x.at) l.end
+
+-- the loop over a member's lines
+pub outlines_first : {s : List ℕ} {c d : LineCursor} {n : ℕ} → c ≡ at_first → PassedTo s false c 0 d n → Outlines s d (record { title = None; levels = None }) n
+outlines_first {s} {c} e h = outlines_still (outlines_none s c e) h
+
+pub outlines_on : {s : List ℕ} {c d b : LineCursor} {z y : Seen} {a e p m n : ℕ} {k : LineKind} → Outlines s c z p → IsLine s c a e k d → SeenWith z a k y
+    → m ≡ cond (is_blank (part a e s)) p e → PassedTo s false d m b n → Outlines s b y n
+outlines_on o l w q h = outlines_still (outlines_line o l w q) h
 
 -- no line is left
-module _ {s : List ℕ} {c : LineCursor} {z : Seen} (o : Outlines s c z) (e : left_of c s ≡ []) where
+module _ {s : List ℕ} {c : LineCursor} {z : Seen} {p : ℕ} (o : Outlines s c z p) (e : left_of c s ≡ []) where
   all : kept_lines s ≡ o.told
   all =
       (rw (take-length s) at (o.reach (length s) o.cursor.1 (omega arith)))
       ∙ ap (λ (ts : List Told). o.told ++ ts) e
       ∙ append-nil o.told
 
-  outlines_untitled : z.titled ≡ false → title_of (prepared_lines s) ≡ None
+  pub outlines_untitled : z.title ≡ None → FoundOutline s None
   unfolding title_of
   outlines_untitled q = let h = rw q at o.seen in prepared_title s ∙ h ∙ ap title_of e
 
-  outlines_titled : z.titled ≡ true → IsOutline s z.outline
+  pub outlines_titled : {x : Part} → z.title ≡ Some x → FoundOutline s (Some (record { end = p; title = x; levels = z.levels }))
   unfolding shallowest_of deepest_of movable
   outlines_titled q =
       let h = rw q at o.seen in
@@ -229,13 +245,6 @@ module _ {s : List ℕ} {c : LineCursor} {z : Seen} (o : Outlines s c z) (e : le
           small = o.small;
         };
       }
-
-pub outlines_found : {s : List ℕ} {c : LineCursor} {z : Seen} → Outlines s c z → left_of c s ≡ [] → FoundOutline s (then_some z.titled z.outline)
-outlines_found {s} {c} {z} o e = go z.titled refl
-  where
-    go : (t : Bool) → z.titled ≡ t → FoundOutline s (then_some t z.outline)
-    go true q = outlines_titled o e q
-    go false q = outlines_untitled o e q
 
 -- a heading's text stands where a machine's number can say
 pub line-placed : {s : List ℕ} {c d : LineCursor} {a e : ℕ} (k : LineKind) → IsLine s c a e k d → length s < 2 ^ 64 → Placed k a

@@ -1,11 +1,9 @@
 -- What is known of a member once it is prepared. Nothing here is document 01's: functions promise it.
-use Rattle.std.specs.Prelude.{ℕ, ℤ, ◌+◌, ◌≤◌, ◌≡◌, true, false, List, length, take, Option, Some, None, Result, Ok, Err}
-use Rattle.std.specs.Int.Signed.{mag}
+use Rattle.std.specs.Prelude.{ℕ, ℤ, ◌≤◌, ◌≡◌, List, length, take, Option, Some, None, Result}
 use Rattle.text.specs.Bytes.{part}
-use Rattle.heading.specs.Level.{any_past, first_past}
 use Rattle.heading.specs.declared.walk.LineKind.{LineKind}
-use Rattle.shift.specs.Shift.{kinds_of, shift_for}
-use Rattle.shift.specs.Levels.{AreLevels}
+use Rattle.shift.specs.Shift.{kinds_of}
+use Rattle.shift.specs.Levels.{AreLevels, ShiftOf}
 use Rattle.member.specs.Member.{prepared_lines, title_of, movable}
 use Rattle.member.specs.Lines.{kept_lines}
 use Rattle.outline.specs.declared.Outline.{Outline}
@@ -17,7 +15,7 @@ pub record IsOutline (s : List ℕ) (o : Outline) : Type 0 where
   pub title : title_of (prepared_lines s) ≡ Some (part o.title.start o.title.end s)
   pub forward : o.title.start ≤ o.title.end
   pub inside : o.title.end ≤ o.end
-  pub levels : AreLevels (kinds_of (movable (prepared_lines s))) o.levels.top o.levels.deepest
+  pub levels : AreLevels (kinds_of (movable (prepared_lines s))) o.levels
 
 abbrev pub FoundOutline : List ℕ → Option Outline → Type 0
 FoundOutline s (Some o) = IsOutline s o
@@ -29,5 +27,4 @@ moved_kinds s = kinds_of (movable (kept_lines s))
 
 -- the shift to level 2, where no heading goes past level 6; or the first line that does, counted from 1
 abbrev pub ShiftBelow : List ℕ → Result ℤ ℕ → Type 0
-ShiftBelow s (Ok x) = (x ≡ shift_for 2 (moved_kinds s)) × ((mag x ≤ 7) × (any_past (shift_for 2 (moved_kinds s)) (moved_kinds s) ≡ false))
-ShiftBelow s (Err n) = (any_past (shift_for 2 (moved_kinds s)) (moved_kinds s) ≡ true) × (n ≡ 1 + first_past (shift_for 2 (moved_kinds s)) (moved_kinds s))
+ShiftBelow s r = ShiftOf 2 (moved_kinds s) r

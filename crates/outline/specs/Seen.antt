@@ -1,8 +1,9 @@
 -- A member's lines, one after the other, with a title among those before or not. Nothing here is document 01's: inner functions promise it.
-use Rattle.std.specs.Prelude.{ℕ, ◌+◌, ◌^◌, ◌≤◌, ◌<◌, ◌≡◌, Bool, cond, ◌||◌, eqb}
+use Rattle.std.specs.Prelude.{ℕ, ◌+◌, ◌^◌, ◌≤◌, ◌<◌, ◌≡◌, Bool, cond, ◌||◌, eqb, Option, Some, None, is_some}
 use Rattle.heading.specs.Level.{shallower, deeper}
 use Rattle.heading.specs.declared.walk.LineKind.{LineKind}
 use Rattle.heading.specs.declared.walk.LineKind.TheVariants.{Quoted, Heading, Other}
+use Rattle.shift.specs.Levels.{top_in, deepest_in}
 use Rattle.text.specs.declared.part.Part.{Part}
 use Rattle.outline.specs.declared.Seen.{Seen}
 
@@ -18,11 +19,12 @@ moved_kind t Quoted = Quoted
 moved_kind t (Heading n x y) = cond t (Heading n x y) (cond (eqb n 1) Other (Heading n x y))
 moved_kind t Other = Other
 
--- where the title's text stands, where a line of this kind starts at place a
-abbrev pub title_at : Bool → ℕ → LineKind → Part → Part
-title_at t a Quoted o = o
-title_at t a (Heading n x y) o = cond t o (cond (eqb n 1) (record { start = a + x; end = a + y }) o)
-title_at t a Other o = o
+-- where the title's text stands, with a line more of this kind that starts at place a
+abbrev pub title_at : Option Part → ℕ → LineKind → Option Part
+title_at o a Quoted = o
+title_at (Some p) a (Heading n x y) = Some p
+title_at None a (Heading n x y) = cond (eqb n 1) (Some (record { start = a + x; end = a + y })) None
+title_at o a Other = o
 
 -- a heading's text stands where a machine's number can say
 abbrev pub Placed : LineKind → ℕ → Type 0
@@ -30,14 +32,8 @@ Placed Quoted a = Unit {0}
 Placed (Heading n x y) a = (x ≤ y) × (a + y < 2 ^ 64)
 Placed Other a = Unit {0}
 
--- what is seen with one line more, behind which the lines that are not blank end at place e
-pub record SeenWith (z : Seen) (a e : ℕ) (k : LineKind) (r : Seen) : Type 0 where
-  pub titled : r.titled ≡ titled_by z.titled k
-  pub end : r.outline.end ≡ e
-  pub title : r.outline.title ≡ title_at z.titled a k z.outline.title
-  pub top : r.outline.levels.top ≡ shallower z.outline.levels.top (moved_kind z.titled k)
-  pub deepest : r.outline.levels.deepest ≡ deeper z.outline.levels.deepest (moved_kind z.titled k)
-
--- what is seen with lines more that are no headings, those that are not blank ending at e
-abbrev pub ended_at : Seen → ℕ → Seen
-ended_at z e = record { titled = z.titled; outline = record { end = e; title = z.outline.title; levels = z.outline.levels } }
+-- what is seen with one line more
+pub record SeenWith (z : Seen) (a : ℕ) (k : LineKind) (r : Seen) : Type 0 where
+  pub title : r.title ≡ title_at z.title a k
+  pub top : top_in r.levels ≡ shallower (top_in z.levels) (moved_kind (is_some z.title) k)
+  pub deepest : deepest_in r.levels ≡ deeper (deepest_in z.levels) (moved_kind (is_some z.title) k)

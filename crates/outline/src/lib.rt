@@ -2,11 +2,10 @@
 
 // What is known of a member once it is prepared.
 ghost use Rattle.std.specs.Prelude.{true, cond, ◌≡◌, ◌+◌, ◌≤◌};
-ghost use Rattle.std.specs.Int.Signed.{mag};
 ghost use Rattle.heading.specs.Level.{any_past, first_past};
 ghost use Rattle.text.specs.Space.{is_blank};
 ghost use Rattle.shift.specs.Levels.{AreLevels};
-ghost use Rattle.outline.specs.Seen.{titled_by, moved_kind, title_at, Placed, SeenWith, ended_at};
+ghost use Rattle.outline.specs.Seen.{titled_by, moved_kind, title_at, Placed, SeenWith};
 ghost use Rattle.outline.specs.Outline.{FoundOutline, moved_kinds, ShiftBelow};
 
 use heading::walk::LineKind;
@@ -16,19 +15,19 @@ use shift::level::Levels;
 use text::part::Part;
 use text::space;
 
-// Where its lines end without blank ones, where its title's text stands, and the levels of its other headings.
-#[derive(Clone, Copy)]
+// Where its lines end without blank ones, where its title's text stands, and the levels of its other headings, where it has any.
+#[derive(Clone, Copy, Default)]
 pub struct Outline {
     pub end: usize,
     pub title: Part,
-    pub levels: Levels,
+    pub levels: Option<Levels>,
 }
 
-// The outline of the lines seen so far, and whether there is a title among them.
+// What is seen of the lines so far: where the title's text stands, once there is a title, and the levels of the other headings.
 #[derive(Clone, Copy)]
 struct Seen {
-    titled: bool,
-    outline: Outline,
+    title: Option<Part>,
+    levels: Option<Levels>,
 }
 
 // Whether there is a title among the lines up to one of this kind, where there is one before it or not: the first H1.
@@ -48,21 +47,21 @@ pub fn moved_kind(titled: bool, kind: LineKind) -> LineKind
     }
 }
 
-// Where the title's text stands, where a line of this kind starts at a place.
-fn title_at(titled: bool, at: usize, kind: LineKind, old: Part) -> Part
+// Where the title's text stands, with a line more of this kind that starts at a place.
+fn title_at(found: Option<Part>, at: usize, kind: LineKind) -> Option<Part>
     requires { Placed kind at }
-    ensures { result ≡ title_at titled at kind old }
+    ensures { result ≡ title_at found at kind }
 {
     match kind {
         LineKind::Heading {
             level: 1,
             start,
             end,
-        } if !titled => Part {
+        } if found.is_none() => Some(Part {
             start: at + start,
             end: at + end,
-        },
-        _ => old,
+        }),
+        _ => found,
     }
 }
 
@@ -73,65 +72,42 @@ fn end_with(old: usize, line: &[u8], end: usize) -> usize
     if space::is_blank(line) { old } else { end }
 }
 
-// The outline with one line more.
-fn with_line(seen: Seen, at: usize, end: usize, kind: LineKind) -> Seen
+// What is seen with one line more.
+fn with_line(seen: Seen, at: usize, kind: LineKind) -> Seen
     requires { Placed kind at }
-    ensures { SeenWith seen at end kind result }
+    ensures { SeenWith seen at kind result }
 {
     Seen {
-        titled: titled_by(seen.titled, kind),
-        outline: Outline {
-            end,
-            title: title_at(seen.titled, at, kind, seen.outline.title),
-            levels: level::with_line(seen.outline.levels, moved_kind(seen.titled, kind)),
-        },
+        title: title_at(seen.title, at, kind),
+        levels: level::with_line(seen.levels, moved_kind(seen.title.is_some(), kind)),
     }
 }
 
-// The outline with lines more that are no headings.
-fn ended_at(seen: Seen, end: usize) -> Seen
-    ensures { result ≡ ended_at seen end }
-{
-    Seen {
-        outline: Outline {
-            end,
-            ..seen.outline
-        },
-        ..seen
-    }
-}
-
-// Prepares a member: its lines without hand-written contents and without blank ones at the end, its title and its levels.
+// Prepares a member: its lines without hand-written contents and without blank ones at the end, its title and its levels; None where it has no title.
 pub fn prepare(s: &[u8]) -> Option<Outline>
     ensures { FoundOutline s.now result }
 {
     let mut seen = Seen {
-        titled: false,
-        outline: Outline {
-            end: 0,
-            title: Part { start: 0, end: 0 },
-            levels: Levels {
-                top: None,
-                deepest: 0,
-            },
-        },
+        title: None,
+        levels: None,
     };
-    let mut cursor = lines::first();
-    loop {
-        let passed = lines::pass(s, cursor, seen.outline.end, false);
-        seen = ended_at(seen, passed.end);
-        let Some(line) = lines::next_line(s, passed.behind) else {
-            return seen.titled.then_some(seen.outline);
-        };
+    let mut passed = lines::pass(s, lines::first(), 0, false);
+    while let Some(line) = lines::next_line(s, passed.behind) {
         let end = end_with(passed.end, &s[line.start..line.end], line.end);
-        seen = with_line(seen, line.start, end, line.kind);
-        cursor = line.behind;
+        seen = with_line(seen, line.start, line.kind);
+        passed = lines::pass(s, line.behind, end, false);
     }
+    let title = seen.title?;
+    Some(Outline {
+        end: passed.end,
+        title,
+        levels: seen.levels,
+    })
 }
 
 // The line of the first heading that a shift takes past level 6, the title excepted, where there is one.
 fn past_line(s: &[u8], shift: i32) -> usize
-    requires { (mag shift ≤ 7) × (any_past shift (moved_kinds s.now) ≡ true) }
+    requires { any_past shift (moved_kinds s.now) ≡ true }
     ensures { result ≡ 1 + first_past shift (moved_kinds s.now) }
 {
     let mut titled = false;
@@ -146,13 +122,17 @@ fn past_line(s: &[u8], shift: i32) -> usize
     cursor.line
 }
 
-// The shift that takes the shallowest of a prepared member's headings to level 2, the title excepted.
-pub fn shift_below(s: &[u8], levels: Levels) -> Result<i32, usize>
-    requires { AreLevels (moved_kinds s.now) levels.top levels.deepest }
+// The shift that takes the shallowest of a prepared member's headings to level 2, the title excepted; or the first line whose heading goes past
+// level 6 then, counted from 1.
+pub fn shift_below(s: &[u8], levels: Option<Levels>) -> Result<i32, usize>
+    requires { AreLevels (moved_kinds s.now) levels }
     ensures { ShiftBelow s.now result }
 {
-    let shift = heading::level::shift_to(2, levels.top);
-    if levels.top.is_some() && level::is_past(levels.deepest, shift) {
+    let Some(found) = levels else {
+        return Ok(0);
+    };
+    let shift = heading::level::shift_to(2, Some(found.shallowest));
+    if level::is_past(found.deepest, shift) {
         return Err(past_line(s, shift));
     }
     Ok(shift)

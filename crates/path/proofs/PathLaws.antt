@@ -45,33 +45,28 @@ pub goes_some : (s : List ℕ) (a e : ℕ) → goes (part a e s) ≡ false → a
 goes_some s a e h = omega (arith, goes_none (part a e s) h, part_length s a e)
 
 -- one part back
-module _ (s : List ℕ) (n a : ℕ) (h : 0 < n) (k : a ≤ n - 1) (q : a ≡ after_last (is SLASH) (take (n - 1) s)) where
-  back_on : (t : Tail) → tail_of (parts_left n s) t ≡ tail_of (parts_left a s) (before (part a (n - 1) s) t)
+module _ (s : List ℕ) {n e a : ℕ} (h : n ≡ suc e) (k : a ≤ e) (q : a ≡ after_last (is SLASH) (take e s)) where
+  back_on : (t : Tail) → tail_of (parts_left n s) t ≡ tail_of (parts_left a s) (before (part a e s) t)
   unfolding tail_of
-  back_on t =
-      let e : n ≡ suc (n - 1) = omega arith in
-      let p : parts_left n s ≡ parts_left a s ++ (part a (n - 1) s ∷ []) = ap (λ (m : ℕ). parts_left m s) e ∙ parts_back s (n - 1) a q k in
-      ap (λ (l : List (List ℕ)). tail_of l t) p ∙ tail-append (parts_left a s) (part a (n - 1) s ∷ []) t
+  back_on t = rw h (ap (λ (l : List (List ℕ)). tail_of l t) (parts_back s e a q k) ∙ tail-append (parts_left a s) (part a e s ∷ []) t)
 
-  pub back_goes : (t : Tail) → goes (part a (n - 1) s) ≡ true → tail_of (parts_left n s) t ≡ tail_of (parts_left a s) t
+  pub back_goes : (t : Tail) → goes (part a e s) ≡ true → tail_of (parts_left n s) t ≡ tail_of (parts_left a s) t
   unfolding before
-  back_goes t e = back_on t ∙ rw e
+  back_goes t g = back_on t ∙ rw g
 
-  module _ (u : ℕ) (t : List ℕ) (e : goes (part a (n - 1) s) ≡ false) where
-    pub back_up : is_up (part a (n - 1) s) ≡ true → tail_of (parts_left n s) (tail u t) ≡ tail_of (parts_left a s) (tail (u + 1) t)
+  module _ (u : ℕ) (t : List ℕ) (g : goes (part a e s) ≡ false) where
+    pub back_up : is_up (part a e s) ≡ true → tail_of (parts_left n s) (tail u t) ≡ tail_of (parts_left a s) (tail (u + 1) t)
     unfolding before
-    back_up f = back_on (tail u t) ∙ rw (e, f, add-one u)
+    back_up f = back_on (tail u t) ∙ rw (g, f, add-one u)
 
-    pub back_drop : is_up (part a (n - 1) s) ≡ false → (u ≡ 0 → ⊥) → tail_of (parts_left n s) (tail u t) ≡ tail_of (parts_left a s) (tail (u - 1) t)
-    unfolding before
-    back_drop f g =
-        let v : u ≡ suc (u - 1) = omega arith in
-        back_on (tail u t) ∙ rw (e, f) (ap (λ (m : ℕ). tail_of (parts_left a s) (dropped (part a (n - 1) s) m t)) v)
+    module _ (f : is_up (part a e s) ≡ false) where
+      pub back_drop : {v : ℕ} → u ≡ suc v → tail_of (parts_left n s) (tail u t) ≡ tail_of (parts_left a s) (tail v t)
+      unfolding before
+      back_drop z = back_on (tail u t) ∙ rw (g, f, z)
 
-    pub back_keep : is_up (part a (n - 1) s) ≡ false → u ≡ 0
-        → tail_of (parts_left n s) (tail u t) ≡ tail_of (parts_left a s) (tail 0 (put (part a (n - 1) s) t))
-    unfolding before
-    back_keep f g = back_on (tail u t) ∙ rw (e, f, g)
+      pub back_keep : u ≡ 0 → tail_of (parts_left n s) (tail u t) ≡ tail_of (parts_left a s) (tail 0 (put (part a e s) t))
+      unfolding before
+      back_keep z = back_on (tail u t) ∙ rw (g, f, z)
 
 -- the last part of what a cursor has left
 module _ (dir path : List ℕ) (c : PathCursor) where

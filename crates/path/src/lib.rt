@@ -15,8 +15,8 @@ pub enum BackPart {
     Above(usize),
 }
 
-// What is left of a path, seen from its end: the first `left - 1` bytes of the directory, or of the path with the directory before it; with
-// `left` 0 none.
+// What is left of a path, seen from its end: the parts of the directory, or of the path with the directory before it, that stand before a part that
+// starts at `left`. So `left` is a place and no Option: 0 where the text's first part was read, and one more than the text's length at first.
 #[derive(Clone, Copy)]
 pub struct PathCursor {
     pub inside: bool,
@@ -51,15 +51,14 @@ fn goes_out(part: &[u8]) -> bool
     pattern::equals(part, b".")
 }
 
-// The last part kept of a text's first `left - 1` bytes, where `up` parts are still to be dropped.
+// The last part kept of a text before a part that starts at `left`, where `up` parts are still to be dropped.
 fn back(s: &[u8], left: usize, up: usize) -> BackPart
     requires { (left ≤ suc (length s.now)) × (up + left ≤ 0x1_0000_0000_0000_0000) }
     ensures { Back s.now left up result }
 {
     let mut left = left;
     let mut up = up;
-    while 0 < left {
-        let end = left - 1;
+    while let Some(end) = left.checked_sub(1) {
         let start = bytes::after_last(&s[..end], b'/');
         let part = &s[start..end];
         left = start;
@@ -67,10 +66,10 @@ fn back(s: &[u8], left: usize, up: usize) -> BackPart
             if pattern::equals(part, b"..") {
                 up += 1;
             } else {
-                if up == 0 {
+                let Some(fewer) = up.checked_sub(1) else {
                     return BackPart::Kept { start, end };
-                }
-                up -= 1;
+                };
+                up = fewer;
             }
         }
     }
@@ -92,7 +91,7 @@ fn in_dir(found: BackPart) -> Option<PathPart>
     }
 }
 
-// The last part kept of what is left.
+// The last part kept of what is left; None where none is.
 pub fn last_part(path: &[u8], dir: &[u8], from: PathCursor) -> Option<PathPart>
     requires { Within dir.now path.now from }
     ensures { LastPart dir.now path.now from result }

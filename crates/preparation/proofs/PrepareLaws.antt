@@ -1,66 +1,37 @@
 -- Laws of members that are prepared one after the other. Assumes nothing.
-use Rattle.std.specs.Prelude.{Some, None}
-use Prim.Native.Nat.{ℕ, zero, suc, ◌+◌, ◌*◌, ◌≤◌, ◌<◌}
+use Rattle.std.specs.Prelude.{None, Some, All}
+use Rattle.std.specs.List.{AllZip}
+use Rattle.std.proofs.lemmas.List.{take_more, take_more_set, take_all, get_or-drop, drop_more, drop-set-lt, drop-drop, take-append-drop}
+use Rattle.std.proofs.lemmas.List.Elements.{All-head, All-tail, All-push, AllZip-push, AllZip-get_or, length_all_zip}
+use Prim.Native.Nat.{ℕ, ◌+◌, ◌≤◌, ◌<◌}
+use native.Mathlib.Nat.{add-zero}
 use native.Mathlib.Omega.{arith}
-use mathlib.Core.Path.{◌≡◌, refl, sym, ap, ◌∙◌, subst}
-use mathlib.Core.Bool.{Bool, true, false}
-use mathlib.Core.List.{List, []}
-use lib.Dec.{eqb}
-use lib.ListN.{length}
-use lib.Seq.{sets}
-use borrow.Author.Tests.{eqb-true, eqb-false}
+use mathlib.Core.Path.{◌≡◌, refl, sym, ap, ◌∙◌}
+use mathlib.Core.List.{List, [], ◌∷◌, ◌++◌}
+use lib.ListN.{length, take, drop, get_or, set}
 use Rattle.answer.specs.declared.Refusal.{Refusal}
 use Rattle.answer.specs.declared.Refusal.TheVariants.{NoTitle}
 use Rattle.index.specs.Index.{File}
-use Rattle.walk.specs.Parts.{Part, good, flawed}
+use Rattle.walk.specs.Parts.{good, flawed}
 use Rattle.walk.specs.Steps.{done, failed, go}
-use Rattle.put.specs.Put.{source_text}
+use Rattle.put.specs.Put.{source_text, Inside}
 use Rattle.member.specs.Member.{Prepared, prepared_lines, title_of, titled, prepare}
 use Rattle.outline.specs.Outline.{IsOutline}
 use Rattle.outline.specs.declared.Outline.{Outline}
-use Rattle.members.specs.Members.{member_at, numbers_of, name_of, file_in, prepared_in, files_from, prepared_from, Lies, AllLie, AllStand, AllKnown}
+use Rattle.members.specs.Members.{file_in, all_files, all_prepared, Lies, name_of, AllLie, AllStand, IsKnown, AllKnown}
 use Rattle.members.specs.declared.Member.{Member}
-use Rattle.members.proofs.MembersLaws.{member_put_same, member_put_other, prepares, all_stand}
+use Rattle.members.proofs.MembersLaws.{prepares, all_stand}
 use Rattle.assembled.specs.Assemble.{prepare_all}
-use Rattle.preparation.specs.Preparation.{SameFile, ArePrepared}
-
-module _ (index contents work old new : List ℕ) where
-  -- all of n members from member i on are prepared
-  prepared-each : (i n : ℕ) → ((k : ℕ) → i ≤ k → k < i + n → prepare (file_in index contents work (member_at old k)) ≡ good (prepared_in index contents work (member_at new k)))
-      → prepare_all (files_from index contents work old i n) ≡ done (prepared_from index contents work new i n)
-  unfolding prepare_all files_from prepared_from go
-  prepared-each i zero e = refl
-  prepared-each i (suc n) e = rw (e i (omega arith) (omega arith), prepared-each (i + 1) n (λ k a b. e k (omega arith) (omega arith)))
-
--- a member that is prepared, whatever it is then
-abbrev pub IsGood : Part Prepared → Type 0
-IsGood x = (m : Prepared) × (x ≡ good m)
-
-module _ (index contents work set : List ℕ) where
-  -- member j of n members from member i on is the first that is not prepared
-  stopped-from : (j : ℕ) (x : Refusal) (xs : List Refusal) → prepare (file_in index contents work (member_at set j)) ≡ flawed x xs
-      → ((k : ℕ) → k < j → IsGood (prepare (file_in index contents work (member_at set k)))) → (i n : ℕ) → i ≤ j → j < i + n → prepare_all (files_from index contents work set i n) ≡ failed x
-  unfolding prepare_all files_from go
-  stopped-from j x xs e g i zero a b = absurd (omega arith)
-  stopped-from j x xs e g i (suc n) a b = at-member (eqb i j) refl (stopped-from j x xs e g (i + 1) n)
-    where
-      at-member : (q : Bool) → eqb i j ≡ q → (i + 1 ≤ j → j < i + 1 + n → prepare_all (files_from index contents work set (i + 1) n) ≡ failed x)
-          → prepare_all (files_from index contents work set i (suc n)) ≡ failed x
-      at-member true q ih = let z : i ≡ j = eqb-true i j q in rw (z, e)
-      at-member false q ih = let h : i < j = omega (arith, eqb-false i j q) in rw ((g i h).1, ih (omega arith) (omega arith))
-
-  pub prepare_stops : (i n : ℕ) (x : Refusal) (xs : List Refusal) → i < n → prepare (file_in index contents work (member_at set i)) ≡ flawed x xs
-      → ((k : ℕ) → k < i → IsGood (prepare (file_in index contents work (member_at set k)))) → prepare_all (files_from index contents work set 0 n) ≡ failed x
-  prepare_stops i n x xs h e g = stopped-from i x xs e g 0 n (omega arith) (omega arith)
+use Rattle.preparation.specs.Preparation.{CanPrepare, SameFile, ArePrepared}
 
 -- a file with a title is prepared
-pub prepare_good : (h : File) (t : List ℕ) → title_of (prepared_lines h.text) ≡ Some t → IsGood (prepare h)
+prepare_good : (h : File) (t : List ℕ) → title_of (prepared_lines h.text) ≡ Some t → (m : Prepared) × (prepare h ≡ good m)
 unfolding prepare
 prepare_good h t e = (record { file = h.number; name = h.name; lines = prepared_lines h.text; title = t }, ap (titled h (prepared_lines h.text)) e)
 
 -- a member with another outline
 module _ {old new : Member} (s : SameFile old new) where
-  pub file-same : (index contents work : List ℕ) → file_in index contents work new ≡ file_in index contents work old
+  file-same : (index contents work : List ℕ) → file_in index contents work old ≡ file_in index contents work new
   file-same index contents work = rw (s.name, s.file, s.source)
 
   lies_same : {index contents limit stop : ℕ} → Lies index contents limit stop old → Lies index contents limit stop new
@@ -76,78 +47,90 @@ module _ {old new : Member} (s : SameFile old new) where
   name-same : (index : List ℕ) → name_of index new ≡ name_of index old
   name-same index = rw s.name
 
-pub lie-same : {index old new : List ℕ} {contents limit stop n : ℕ} → AllLie index contents limit stop old n → ((i : ℕ) → i < n → SameFile (member_at old i) (member_at new i))
-    → AllLie index contents limit stop new n
-lie-same {index} a s = record {
-  few = a.few;
-  lie = λ i h. lies_same (s i h) (a.lie i h);
-  same = λ i j h k e. name-same (s i h) index ∙ a.same i j h k (sym (s i h).file ∙ e ∙ (s j k).file) ∙ sym (name-same (s j k) index);
-}
+lie_same : {index : List ℕ} {contents limit stop : ℕ} {old new : List Member} → AllLie index contents limit stop old → AllZip SameFile old new → AllLie index contents limit stop new
+lie_same {index} {old = old} {new = new} a z =
+    let n : length old ≡ length new = length_all_zip SameFile old new z in
+    let s : (k : ℕ) (d : Member) → k < length new → SameFile (get_or old k d) (get_or new k d) = λ k d h. AllZip-get_or SameFile old new k d d z (omega arith) in
+    record {
+      few = omega (arith, a.few);
+      lie = λ k d h. lies_same (s k d h) (a.lie k d (omega arith));
+      same = λ i d h j e k q.
+          name-same (s i d h) index
+          ∙ a.same i d (omega arith) j e (omega arith) (sym (s i d h).file ∙ q ∙ (s j e k).file)
+          ∙ sym (name-same (s j e k) index);
+    }
 
--- what the walk does once all are prepared
-module _ {index : List ℕ} {m limit stop : ℕ} {contents work old new : List ℕ} {n : ℕ} (a : AllLie index m limit stop old n) (p : ArePrepared contents work old new n) where
-  pub prepared_all : prepare_all (files_from index contents work old 0 n) ≡ done (prepared_from index contents work new 0 n)
-  prepared_all = prepared-each index contents work old new 0 n (λ k h j.
-      ap prepare (sym (file-same (p.same k (omega arith)) index contents work)) ∙ prepares ((lie-same {new = new} a p.same).lie k (omega arith)) contents work index (p.known.known k (omega arith)))
+-- all members are prepared
+prepared-each : {size contents limit stop : ℕ} (index c w : List ℕ) (old new : List Member) → AllZip SameFile old new → All (Lies size contents limit stop) old
+    → AllKnown c w new → prepare_all (all_files index c w old) ≡ done (all_prepared index c w new)
+unfolding prepare_all go
+prepared-each index c w [] [] z l k = refl
+prepared-each index c w [] (q ∷ qs) z l k = absurd z
+prepared-each index c w (m ∷ ms) [] z l k = absurd z
+prepared-each {size} {contents} {limit} {stop} index c w (m ∷ ms) (q ∷ qs) z l k =
+    rw (
+      file-same z.0 index c w,
+      prepares (lies_same z.0 (All-head (Lies size contents limit stop) m ms l)) c w index (All-head (IsKnown c w) q qs k),
+      prepared-each index c w ms qs z.1 (All-tail (Lies size contents limit stop) m ms l) (All-tail (IsKnown c w) q qs k),
+    )
 
-  pub prepared_stand : AllStand index m limit stop new n
-  prepared_stand = all_stand (lie-same a p.same) p.known
+module _ {index : List ℕ} {n limit stop : ℕ} {contents work : List ℕ} {old new : List Member} (a : AllLie index n limit stop old) (p : ArePrepared contents work old new) where
+  pub prepared_all : prepare_all (all_files index contents work old) ≡ done (all_prepared index contents work new)
+  prepared_all = prepared-each index contents work old new p.same a.lie p.known
 
--- ---- the loop of preparing: i of n members are prepared
+  pub prepared_stand : AllStand index n limit stop new
+  prepared_stand = all_stand contents work (lie_same a p.same) p.known
 
-pub record SoFar (contents work old new : List ℕ) (i n : ℕ) : Type 0 where
-  pub same : (k : ℕ) → k < n → SameFile (member_at old k) (member_at new k)
-  pub known : AllKnown contents work new i
+-- the first member that is not prepared
+stops : (index c w : List ℕ) (old new : List Member) → AllZip SameFile old new → AllKnown c w new → (m : Member) (ms : List Member) (x : Refusal) (xs : List Refusal)
+    → prepare (file_in index c w m) ≡ flawed x xs → prepare_all (all_files index c w (old ++ (m ∷ ms))) ≡ failed x
+unfolding prepare_all go
+stops index c w [] [] z k m ms x xs e = rw e
+stops index c w [] (q ∷ qs) z k m ms x xs e = absurd z
+stops index c w (p ∷ ps) [] z k m ms x xs e = absurd z
+stops index c w (p ∷ ps) (q ∷ qs) z k m ms x xs e =
+    let g = prepare_good (file_in index c w q) _ (All-head (IsKnown c w) q qs k).title in
+    rw (file-same z.0 index c w, g.1, stops index c w ps qs z.1 (All-tail (IsKnown c w) q qs k) m ms x xs e)
 
-abbrev Outlines : List ℕ → List ℕ → Member → Type 0
-Outlines contents work m = IsOutline (source_text m.source contents work) m.outline
+-- the first i members are prepared, and the others are as they were
+pub record SoFar (contents work : List ℕ) (old new : List Member) (i : ℕ) : Type 0 where
+  pub same : AllZip SameFile (take i old) (take i new)
+  pub known : AllKnown contents work (take i new)
+  pub rest : drop i new ≡ drop i old
 
-abbrev with_outline : Member → Outline → Member
-with_outline m o = record { name = m.name; file = m.file; source = m.source; outline = o }
+pub far_start : (contents work : List ℕ) (old : List Member) → SoFar contents work old old 0
+far_start contents work old = record { same = tt; known = λ k d h. absurd (omega arith); rest = refl }
 
-module _ {contents work old new : List ℕ} {i n : ℕ} (f : SoFar contents work old new i n) (h : i < n) where
-  pub far_stops : title_of (prepared_lines (source_text (member_at new i).source contents work)) ≡ None → (index : List ℕ)
-      → prepare_all (files_from index contents work old 0 n) ≡ failed (NoTitle (member_at new i).file)
-  unfolding prepare
-  far_stops e index =
-      let q : prepare (file_in index contents work (member_at new i)) ≡ flawed (NoTitle (member_at new i).file) [] = rw e in
-      prepare_stops index contents work old i n (NoTitle (member_at new i).file) [] h (ap prepare (sym (file-same (f.same i h) index contents work)) ∙ q)
-      (λ k j. let g = prepare_good (file_in index contents work (member_at new k)) _ (f.known.known k j).title in
-      (g.0, ap prepare (sym (file-same (f.same k (omega arith)) index contents work)) ∙ g.1))
+module _ {contents work : List ℕ} {old new : List Member} {i : ℕ} (f : SoFar contents work old new i) (long : length new ≡ length old) where
+  pub far_end : length new ≤ i → ArePrepared contents work old new
+  far_end h = record { same = rw (take_all i old (omega arith), take_all i new h) at f.same; known = rw (take_all i new h) at f.known }
 
-  module _ (o : Outline) (len : length new ≡ 704) (few : n ≤ 64) (q : IsOutline (source_text (member_at new i).source contents work) o) where
-    abbrev put : List ℕ
-    put = sets new (11 * i) (numbers_of (with_outline (member_at new i) o))
+  module _ (h : i < length old) (d : Member) where
+    here : get_or new i d ≡ get_or old i d
+    here = sym (rw add-zero at (get_or-drop i new 0 d)) ∙ ap (λ (l : List Member). get_or l 0 d) f.rest ∙ rw add-zero at (get_or-drop i old 0 d)
 
-    put_same : member_at put i ≡ with_outline (member_at new i) o
-    put_same = member_put_same new i (with_outline (member_at new i) o) len (omega arith) q.levels.level
+    pub far_inside : (c w : ℕ) → CanPrepare c w old → Inside (get_or new i d).source 0 c w
+    far_inside c w a = rw here (a i d h)
 
-    put_other : (k : ℕ) → (k ≡ i → ⊥) → member_at put k ≡ member_at new k
-    put_other k d = member_put_other new i (with_outline (member_at new i) o) k d
+    pub far_stops : title_of (prepared_lines (source_text (get_or new i d).source contents work)) ≡ None → (index : List ℕ)
+        → prepare_all (all_files index contents work old) ≡ failed (NoTitle (get_or new i d).file)
+    unfolding prepare
+    far_stops e index =
+        let m : Member = get_or new i d in
+        let left : drop i old ≡ m ∷ drop (i + 1) old = drop_more old i d h ∙ ap (λ (x : Member). x ∷ drop (i + 1) old) (sym here) in
+        let whole : old ≡ take i old ++ (m ∷ drop (i + 1) old) = sym (take-append-drop i old) ∙ ap (λ (l : List Member). take i old ++ l) left in
+        ap (λ (l : List Member). prepare_all (all_files index contents work l)) whole
+        ∙ stops index contents work (take i old) (take i new) f.same f.known m (drop (i + 1) old) (NoTitle m.file) [] (rw e)
 
-    pub far_next : SoFar contents work old put (i + 1) n
-    far_next = record { same = λ k j. same_at k j (eqb k i) refl; known = record { known = λ k j. known_at k j (eqb k i) refl } }
-      where
-        same_at : (k : ℕ) → k < n → (b : Bool) → eqb k i ≡ b → SameFile (member_at old k) (member_at put k)
-        same_at k j true e =
-            let s = f.same i h in
-            subst (λ (x : ℕ). SameFile (member_at old x) (member_at put x)) (sym (eqb-true k i e))
-            (subst (λ (m : Member). SameFile (member_at old i) m) (sym put_same) (record { name = s.name; file = s.file; source = s.source }))
-        same_at k j false e = subst (λ (m : Member). SameFile (member_at old k) m) (sym (put_other k (eqb-false k i e))) (f.same k j)
+    module _ (o : Outline) (q : IsOutline (source_text (get_or new i d).source contents work) o) where
+      abbrev prepared : Member
+      prepared = let m : Member = get_or new i d in record { name = m.name; file = m.file; source = m.source; outline = o }
 
-        known_at : (k : ℕ) → k < i + 1 → (b : Bool) → eqb k i ≡ b → Outlines contents work (member_at put k)
-        known_at k j true e = subst (λ (x : ℕ). Outlines contents work (member_at put x)) (sym (eqb-true k i e)) (subst (Outlines contents work) (sym put_same) q)
-        known_at k j false e = subst (Outlines contents work) (sym (put_other k (eqb-false k i e))) (f.known.known k (omega (arith, eqb-false k i e)))
-
--- the same by the member that was read
-module _ {contents work old new : List ℕ} {i n : ℕ} (f : SoFar contents work old new i n) (h : i < n) (m : Member) (e : m ≡ member_at new i) where
-  pub read_stops : title_of (prepared_lines (source_text m.source contents work)) ≡ None → (index : List ℕ) → prepare_all (files_from index contents work old 0 n) ≡ failed (NoTitle m.file)
-  read_stops =
-      subst (λ (x : Member). title_of (prepared_lines (source_text x.source contents work)) ≡ None → (index : List ℕ) → prepare_all (files_from index contents work old 0 n) ≡ failed (NoTitle x.file))
-      (sym e) (far_stops f h)
-
-  pub read_next : (o : Outline) → length new ≡ 704 → n ≤ 64 → IsOutline (source_text m.source contents work) o → (v : List ℕ)
-      → v ≡ sets new (11 * i) (numbers_of (record { name = m.name; file = m.file; source = m.source; outline = o })) → SoFar contents work old v (i + 1) n
-  read_next o len few q v p =
-      subst (λ (l : List ℕ). SoFar contents work old l (i + 1) n) (sym (p ∙ ap (λ (x : Member). sets new (11 * i) (numbers_of (with_outline x o))) e))
-      (far_next f h o len few (subst (λ (x : Member). IsOutline (source_text x.source contents work) o) e q))
+      pub far_next : SoFar contents work old (set new i prepared) (i + 1)
+      far_next =
+          let s : SameFile (get_or old i d) prepared = record { name = ap (λ (x : Member). x.name) here; file = ap (λ (x : Member). x.file) here; source = ap (λ (x : Member). x.source) here } in
+          record {
+            same = rw (take_more old i d h, take_more_set new i prepared (omega arith)) (AllZip-push SameFile (take i old) (take i new) (get_or old i d) prepared f.same s);
+            known = rw (take_more_set new i prepared (omega arith)) (All-push (IsKnown contents work) (take i new) prepared f.known q);
+            rest = drop-set-lt (i + 1) new i prepared (omega arith) ∙ sym (drop-drop 1 i new) ∙ ap (drop 1) f.rest ∙ drop-drop 1 i old;
+          }

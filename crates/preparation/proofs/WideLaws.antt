@@ -3,10 +3,9 @@ use Prim.Native.Nat.{ℕ, ◌≤◌}
 use native.Mathlib.Omega.{arith}
 use mathlib.Core.Bool.{Bool, true, false}
 use mathlib.Core.List.{List}
-use lib.ListN.{length}
 use Rattle.put.specs.Put.{Held, Inside}
 use Rattle.put.specs.declared.Source.{Source}
-use Rattle.members.specs.Members.{member_at, Stands, AllLie, AllStand}
+use Rattle.members.specs.Members.{Stands, AllLie, AllStand}
 use Rattle.members.specs.declared.Member.{Member}
 use Rattle.preparation.specs.Preparation.{CanPrepare}
 
@@ -33,11 +32,8 @@ module _ (limit stop limit' stop' : ℕ) (h : limit' ≤ limit) (k : stop ≤ st
     title = s.title;
   }
 
-  pub stand_wide : (index : List ℕ) (contents : ℕ) (set : List ℕ) (n : ℕ) → AllStand index contents limit stop set n → AllStand index contents limit' stop' set n
-  stand_wide index contents set n a = record { few = a.few; stand = λ i q. stands-wide (length index) contents (member_at set i) (a.stand i q); same = a.same }
+  pub stand_wide : {index : List ℕ} {contents : ℕ} {ms : List Member} → AllStand index contents limit stop ms → AllStand index contents limit' stop' ms
+  stand_wide a = record { few = a.few; stand = λ k d q. stands-wide _ _ _ (a.stand k d q); same = a.same }
 
-pub can_prepare : {index : List ℕ} {contents limit stop : ℕ} {set : List ℕ} {n : ℕ} (work : ℕ) → AllLie index contents limit stop set n → stop ≤ work → CanPrepare contents work set n
-can_prepare {contents = contents} {limit = limit} {stop = stop} {set = set} work a h = record {
-  few = a.few;
-  inside = λ i q. inside-wide limit stop 0 work (omega arith) h (member_at set i).source contents (a.lie i q).inside;
-}
+pub can_prepare : {index : List ℕ} {contents limit stop : ℕ} {ms : List Member} (work : ℕ) → AllLie index contents limit stop ms → stop ≤ work → CanPrepare contents work ms
+can_prepare {contents = contents} {limit = limit} {stop = stop} work a h k d q = inside-wide limit stop 0 work (omega arith) h _ contents (a.lie k d q).inside

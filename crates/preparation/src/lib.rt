@@ -8,20 +8,13 @@ use answer::Refusal;
 use members::Member;
 
 // Prepares all members.
-pub fn prepare_all(
-    contents: &[u8],
-    work: &[u8],
-    set: &mut [usize; 704],
-    count: usize,
-) -> Result<(), Refusal>
-    requires { CanPrepare (length contents.now) (length work.now) set.old count }
-    ensures { ReadyOf contents.now work.now set.old set.new count result }
+pub fn prepare_all(contents: &[u8], work: &[u8], members: &mut [Member]) -> Result<(), Refusal>
+    requires { CanPrepare (length contents.now) (length work.now) members.old }
+    ensures { ReadyOf contents.now work.now members.old members.new result }
 {
-    for i in 0..count {
-        let member = members::member_at(set, i);
+    for member in members.iter_mut() {
         let text = member.source.bytes(contents, work);
-        let outline = outline::prepare(text).ok_or(Refusal::NoTitle(member.file))?;
-        members::put_member(set, i, Member { outline, ..member });
+        member.outline = outline::prepare(text).ok_or(Refusal::NoTitle(member.file))?;
     }
     Ok(())
 }

@@ -1,2 +1,3 @@
 pub mod PutLaws
+pub mod RunningLaws
 pub mod NewTextLaws

@@ -1,9 +1,7 @@
--- What is put at a place of the work buffer, and a text that is read meanwhile. Nothing here is document 01's: inner functions promise it.
-use Rattle.std.specs.Prelude.{ℕ, ◌+◌, ◌≤◌, ◌<◌, ◌≡◌, Bool, true, false, cond, List, length, Option, Some, None}
-use Rattle.std.proofs.lemmas.List.Edits.{sets}
+-- A text that is read while the work buffer is written. Nothing here is document 01's: inner functions promise it.
+use Rattle.std.specs.Prelude.{ℕ, ◌+◌, ◌≤◌, Bool, true, false, cond, List}
 use Rattle.text.specs.Bytes.{part}
 use Rattle.put.specs.declared.Source.{Source}
-use Rattle.put.specs.declared.Room.{Room}
 
 -- the bytes of a source
 abbrev pub source_text : Source → List ℕ → List ℕ → List ℕ
@@ -20,19 +18,3 @@ Inside s limit contents work = (s.start ≤ s.end) × Held s.work s.start s.end 
 -- a part of a source, by places in its text
 abbrev pub part_of : Source → ℕ → ℕ → Source
 part_of s a e = record { work = s.work; start = s.start + a; end = s.start + e }
-
--- a source can be read while the work buffer is written from a place up to the limit
-pub record Able (s : Source) (room : Room) (contents work : List ℕ) : Type 0 where
-  pub inside : Inside s room.limit (length contents) (length work)
-  pub below : room.at ≤ room.limit
-  pub fits : room.limit ≤ length work
-
--- x was put at a place of a buffer w, which is v then, and ends at place n; or it goes over the limit
-pub record Written (room : Room) (x w v : List ℕ) (n : ℕ) : Type 0 where
-  pub place : n ≡ room.at + length x
-  pub below : n ≤ room.limit
-  pub wrote : v ≡ sets w room.at x
-
-abbrev pub Wrote : Room → List ℕ → List ℕ → List ℕ → Option ℕ → Type 0
-Wrote room x w v (Some n) = Written room x w v n
-Wrote room x w v None = room.limit < room.at + length x

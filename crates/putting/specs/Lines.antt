@@ -1,12 +1,11 @@
 -- The lines of a text as they become in a host. Nothing here is document 01's: inner functions promise it, and the laws of `proofs/` tie it to the embedding.
-use Rattle.std.specs.Prelude.{ℕ, zero, suc, ◌≤◌, ◌≡◌, List, [], ◌∷◌, map, length, drop, ℤ, eqb}
+use Rattle.std.specs.Prelude.{ℕ, ◌+◌, ◌≤◌, ◌≡◌, List, ◌∷◌, map, length, ℤ, [], Option, Some, None}
 use Rattle.text.specs.Bytes.{part}
-use Rattle.text.specs.Lines.{LF, pieces, pieces_after, led}
+use Rattle.text.specs.Lines.{LF, pieces, pieces_from, led}
 use Rattle.heading.specs.Walk.{step_kind, step_after, walk_begin}
-use Rattle.heading.specs.Level.{heading_line}
 use Rattle.heading.specs.declared.walk.WalkState.{WalkState}
 use Rattle.shift.specs.Shift.{Told, told_from, moved_line}
-use Rattle.put.specs.NewText.{new_text_of}
+use Rattle.put.specs.NewText.{new_text_of, level_text}
 use Rattle.self_links.specs.Cuts.{linked_text}
 use Rattle.putting.specs.declared.line.LineStep.{LineStep}
 
@@ -21,15 +20,17 @@ abbrev pub linked_lines : List ℕ → List ℕ → ℤ → List ℕ → List �
 linked_lines host dir z s = linked_from host dir z walk_begin (pieces s)
 
 -- what stands before the text of a line: an LF, and a heading's hashes and space
-abbrev pub start_of : ℕ → List ℕ
-start_of zero = LF ∷ []
-start_of (suc n) = LF ∷ heading_line (suc n) []
+abbrev pub start_of : Option ℕ → List ℕ
+start_of level = LF ∷ level_text level
 
--- the line of a text that starts at a place, and the walk's step over it
-pub record FoundLine (s : List ℕ) (a : ℕ) (st : WalkState) (z : ℤ) (r : LineStep) : Type 0 where
+-- the line of a text that starts at a place, and the walk's step over it; or none is left
+pub record IsLine (s : List ℕ) (a : ℕ) (st : WalkState) (z : ℤ) (r : LineStep) : Type 0 where
   pub order : a ≤ r.end
   pub within : r.end ≤ length s
-  pub last : r.last ≡ eqb r.end (length s)
-  pub lines : pieces (drop a s) ≡ part a r.end s ∷ pieces_after r.last r.end s
+  pub lines : pieces_from s a ≡ part a r.end s ∷ pieces_from s (r.end + 1)
   pub text : r.text ≡ new_text_of z a r.end (step_kind st.fence st.comment (part a r.end s))
   pub after : r.state ≡ step_after st.fence st.comment (part a r.end s)
+
+abbrev pub FoundLine : List ℕ → ℕ → WalkState → ℤ → Option LineStep → Type 0
+FoundLine s a st z (Some r) = IsLine s a st z r
+FoundLine s a st z None = pieces_from s a ≡ []

@@ -59,7 +59,7 @@ module _ (s : List ℕ) (n o : ℕ) where
   turned ih l st Closes e =
       let h = kind-closes st.fence (is_some st.region) o l (sym e) in
       closed st st.region h.0 h.1
-  turned ih l st (Opens b d peer) e = ih (after st n o (Opens b d peer))
+  turned ih l st (Opens f) e = ih (after st n o (Opens f))
   turned ih l st (Spans i) e = rw (line-none st n o l (Spans i) (λ q. let z : ◌≡◌ {A = ℕ} 0 1 = cc in omega arith)) (ih st)
 
 behind-line : (s : List ℕ) (n o : ℕ) (st : State) → (o < length s → (t : State) → Behind s (Rest s n o t)) → Behind s (regions_of (scan_from st n (lines_from o (drop o s))))

@@ -6,7 +6,6 @@ use mathlib.Core.Path.{◌≡◌, refl, sym, ◌∙◌}
 use mathlib.Core.List.{List, [], ◌∷◌, ◌++◌}
 use lib.ListN.{replicate}
 use Rattle.fence.specs.declared.Fence.{Fence}
-use Rattle.fence.specs.declared.Fence.TheVariants.{Outside, Ticks, Tildes}
 use Rattle.heading.specs.Walk.{step_kind, step_after, kinds_from, states_after, still_kind}
 use Rattle.heading.specs.Level.{shallower, shallowest_of, IsLevel}
 use Rattle.heading.specs.declared.walk.LineKind.{LineKind}
@@ -23,10 +22,9 @@ unfolding last_level
 last-append b [] js = refl
 last-append b (k ∷ ks) js = last-append (newer b k) ks js
 
-still-newer : (f : Fence) (b : Option ℕ) → newer b (still_kind f) ≡ b
-still-newer Outside b = refl
-still-newer Ticks b = refl
-still-newer Tildes b = refl
+still-newer : (f : Option Fence) (b : Option ℕ) → newer b (still_kind f) ≡ b
+still-newer None b = refl
+still-newer (Some f) b = refl
 
 -- n lines blanked, as a region is: the level above stays
 pub last-blanks : (n : ℕ) (b : Option ℕ) (st : WalkState) (ls : List (List ℕ)) → last_level b (kinds_from st (replicate n [] ++ ls)) ≡ last_level b (kinds_from st ls)

@@ -21,6 +21,7 @@ use Rattle.fence.specs.Fences.{is_fence}
 use Rattle.marker.specs.Marker.{OPEN, SPEC-END, CLOSE, OPEN-FRAGMENT, path_of, named_of, rest_of, alone_of, fragment_of, fragment_kind, marked_kind, kind_of}
 use Rattle.scan.specs.Scan.{closed_by, events_of, after, kind_at, begin, scan_from, regions_of}
 use Rattle.scan.specs.declared.event.Region.{Region}
+use Rattle.marker.specs.declared.problem.Problem.TheVariants.{MarkerInFence, FragmentMarker}
 use Rattle.marker.specs.declared.line.Kind.{Kind}
 use Rattle.marker.specs.declared.line.Kind.TheVariants.{Plain, Fence, Fault, Closes, Opens, Spans}
 use Rattle.scan.specs.declared.state.Opener.{Opener}
@@ -57,7 +58,7 @@ starts-within {s} {n} {o} a = omega (arith, a.counted, split-some LF (drop o s),
 
 -- the path of an opener lies from place lo up to place hi
 abbrev InFragment : ℕ → ℕ → Option Fragment → Type 0
-InFragment lo hi (Some p) = (lo ≤ p.start) × ((p.start < p.end) × (p.end ≤ hi))
+InFragment lo hi (Some p) = (lo ≤ p.path.start) × ((p.path.start < p.path.end) × (p.path.end ≤ hi))
 InFragment lo hi None = Unit {0}
 
 abbrev pub InKind : ℕ → ℕ → Kind → Type 0
@@ -65,7 +66,7 @@ InKind lo hi Plain = Unit {0}
 InKind lo hi Fence = Unit {0}
 InKind lo hi (Fault k) = Unit {0}
 InKind lo hi Closes = Unit {0}
-InKind lo hi (Opens a e peer) = (lo ≤ a) × ((a < e) × (e ≤ hi))
+InKind lo hi (Opens p) = (lo ≤ p.path.start) × ((p.path.start < p.path.end) × (p.path.end ≤ hi))
 InKind lo hi (Spans i) = Unit {0}
 
 wider : (lo hi a e : ℕ) (f : Option Fragment) → lo ≤ a → (a < e → e ≤ hi) → InFragment a e f → InFragment lo hi f
@@ -76,7 +77,7 @@ in_path : (o : ℕ) (peer : Bool) (p : List ℕ) → InFragment o (o + length p)
 unfolding path_of
 in_path o peer p = go (eqb (length p) 0) (contains SPEC-END p) (contains (bytes ":") p) refl
   where
-    go : (x y z : Bool) → eqb (length p) 0 ≡ x → InFragment o (o + length p) (cond (x || y || z) None (Some (record { start = o; end = o + length p; peer = peer })))
+    go : (x y z : Bool) → eqb (length p) 0 ≡ x → InFragment o (o + length p) (cond (x || y || z) None (Some (record { path = record { start = o; end = o + length p }; peer = peer })))
     go true y z e = tt
     go false true z e = tt
     go false false true e = tt
@@ -130,11 +131,11 @@ kind-path fence inside o l hi h = by (is_fence l) (find OPEN l)
     go (Some p) i false q = omega arith
     go None i b q = else (contains OPEN-FRAGMENT l)
       where
-        else : (x : Bool) → InKind (o + 14) hi (cond x (Fault 3) (Spans i))
+        else : (x : Bool) → InKind (o + 14) hi (cond x (Fault FragmentMarker) (Spans i))
         else true = tt
         else false = tt
 
-    marked : (a b c : Bool) (k : Kind) → InKind (o + 14) hi k → InKind (o + 14) hi (cond a (Fault 1) (cond (b && c) Closes k))
+    marked : (a b c : Bool) (k : Kind) → InKind (o + 14) hi k → InKind (o + 14) hi (cond a (Fault MarkerInFence) (cond (b && c) Closes k))
     marked true b c k q = tt
     marked false true true k q = tt
     marked false true false k q = q
@@ -209,7 +210,7 @@ module _ (s : List ℕ) (n o x : ℕ) (a : Starts s n o) (hx : o < x) where
     turned l st Fence w q = ih (after st n o Fence) m p (omega arith) (omega arith) (still st.region q)
     turned l st (Fault k) w q = ih st m p (omega arith) (omega arith) (still st.region q)
     turned l st Closes w q = closed st.fence st.region q
-    turned l st (Opens b e peer) w q = ih (after st n o (Opens b e peer)) m p (omega arith) (omega arith)
+    turned l st (Opens f) w q = ih (after st n o (Opens f)) m p (omega arith) (omega arith)
         (record { opens = a; later = hm; from = hp; line = omega arith; place = hx; path = w })
     turned l st (Spans i) w q =
         rw (line-none st n o l (Spans i) (λ e. let z : ◌≡◌ {A = ℕ} 0 1 = cc in omega arith))

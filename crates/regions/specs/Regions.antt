@@ -1,9 +1,11 @@
 -- Document 01, "Fill": what a fill finds in a file before it takes anything in.
-use Rattle.std.specs.Prelude.{ℕ, ◌+◌, ◌-◌, Bool, false, cond, ◌&&◌, ◌||◌, List, [], ◌∷◌, ◌++◌, take, drop, eqb, leb, Option, Some, None}
+use Rattle.std.specs.Prelude.{ℕ, ◌+◌, ◌-◌, Bool, false, cond, ◌&&◌, ◌||◌, List, [], ◌∷◌, ◌++◌, take, drop, leb, Option, Some, None}
 use Rattle.answer.specs.Answer.{place}
 use Rattle.answer.specs.declared.Place.{Place}
 use Rattle.answer.specs.declared.Refusal.{Refusal}
 use Rattle.answer.specs.declared.Refusal.TheVariants.{NestedRegion, FragmentMarker, UnclosedRegion, PeerWithoutHeading}
+use Rattle.marker.specs.declared.problem.Problem.{Problem}
+use Rattle.marker.specs.declared.problem.Problem.TheVariants as problems
 use Rattle.text.specs.Bytes.{part}
 use Rattle.text.specs.Lines.{pieces}
 use Rattle.scan.specs.Scan.{scan, regions_of}
@@ -17,8 +19,11 @@ use Rattle.heading.specs.declared.walk.LineKind.TheVariants.{Quoted, Heading, Ot
 use Rattle.index.specs.Index.{File}
 
 -- "Problems 2, 3, 4 are refusals 9, 10, 11"
-abbrev pub refusal_of : ℕ → Place → List Refusal
-refusal_of k p = cond (eqb k 2) (NestedRegion p ∷ []) (cond (eqb k 3) (FragmentMarker p ∷ []) (cond (eqb k 4) (UnclosedRegion p ∷ []) []))
+abbrev pub refusal_of : Problem → Place → List Refusal
+refusal_of problems.NestedRegion p = NestedRegion p ∷ []
+refusal_of problems.FragmentMarker p = FragmentMarker p ∷ []
+refusal_of problems.UnclosedRegion p = UnclosedRegion p ∷ []
+refusal_of k p = []
 
 -- those of what a scan finds, in its order: "the first found is given, line by line, problem 4 after all others"
 unfoldable pub problems_of : ℕ → List Event → List Refusal

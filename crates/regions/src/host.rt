@@ -81,11 +81,11 @@ fn top_of(s: &[u8], c: HostCursor, d: Cursor, w: Own) -> Option<usize>
     ensures { IsTop s.now w.above result }
 {
     if c.from != 0 {
-        return c.top;
-    }
-    match w.above {
-        Some(_) => None,
-        None => own::rest_top(s, d, w),
+        c.top
+    } else if w.above.is_some() {
+        None
+    } else {
+        own::rest_top(s, d, w)
     }
 }
 
@@ -120,7 +120,7 @@ fn behind(g: Region, d: Cursor, w: Own, top: Option<usize>) -> HostCursor
     }
 }
 
-// The next region of a host from a cursor on, and the cursor behind it.
+// The next region of a host from a cursor on, and the cursor behind it; None where there is no further one.
 #[tactic(auto, using(crate::proofs::HostLaws::hosts))]
 pub fn next_host(s: &[u8], c: HostCursor) -> Option<(Opening, HostCursor)>
     requires { HostAt s.now c }

@@ -53,7 +53,7 @@ fn own_after(s: &[u8], w: Own) -> Own
     own
 }
 
-// The next region from a cursor on, with the walk over the lines before it.
+// The next whole region from a cursor on, the cursor at the line behind its closer, and the walk over the own lines before it; None where there is no such region.
 #[tactic(auto, using(crate::proofs::CursorLaws::cursors))]
 pub fn next_own(s: &[u8], c: Cursor, w: Own) -> Option<(Region, Cursor, Own)>
     requires { LineFrom s.now c }
@@ -69,7 +69,7 @@ pub fn next_own(s: &[u8], c: Cursor, w: Own) -> Option<(Region, Cursor, Own)>
     Some((region, behind, own))
 }
 
-// The shallowest level of the own lines from a cursor on, with those before it walked.
+// The shallowest level of the own lines from a cursor on, with those before it walked; None where there is none.
 #[tactic(auto, using(crate::proofs::CursorLaws::cursors))]
 pub fn rest_top(s: &[u8], from: Cursor, w: Own) -> Option<usize>
     requires { LineFrom s.now from }

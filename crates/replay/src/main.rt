@@ -4,24 +4,22 @@
 use answer::Answer;
 use std::io;
 use std::io::{Read, Write};
-use stored::{header, print};
+use stored::header;
+use stored::print::Row;
 use text::ascii;
 
 mod outline;
 
-// The loop over the cases has to end, and nothing says that the input does.
-const MOST_CASES: usize = 100_000;
-
-// Scans a text into an output of zeros and prints the answer and the outline.
+// Scans a text into an output of zeros and prints the answer and the outline. No Display: the listing is bytes.
 fn print_scan(to: &mut impl Write, text: &[u8], out: &mut [u8]) -> io::Result<()> {
     let answer = listing::scan(text, out);
-    print::numbers(to, answer::numbers(answer))?;
+    writeln!(to, "{}", Row(answer::numbers(answer)))?;
     if let Ok(Answer::Accepted { length, .. }) = answer
         && let Some(rows) = out.get(..length)
     {
         to.write_all(rows)?;
     }
-    if ascii::wide_line(text) == 0 {
+    if ascii::wide_line(text).is_none() {
         outline::print(to, text)?;
     }
     Ok(())
@@ -46,29 +44,14 @@ fn replay_text(
     Ok(true)
 }
 
-// Reads a header and replays its case. Answers whether to go on: not at the input's end or after an ill-formed case, which is printed.
-fn replay_next(from: &mut impl Read, to: &mut impl Write) -> io::Result<bool> {
-    let mut bytes = [0u8; 14];
-    if !stored::is_filled(from, &mut bytes)? {
-        return Ok(false);
-    }
-    let replayed = match header::parse(&bytes) {
-        Some((length, room)) => replay_text(from, to, length, room)?,
-        None => false,
-    };
-    if !replayed {
-        stored::print_ill_formed(to)?;
-    }
-    Ok(replayed)
-}
-
 fn main(rt: HostRuntime) -> io::Result<()> {
-    let mut from = rt.stdin();
-    let mut to = io::writer(&rt);
-    for _ in 0..MOST_CASES {
-        if !replay_next(&mut from, &mut to)? {
-            break;
-        }
-    }
-    Ok(())
+    stored::replay(
+        &mut rt.stdin(),
+        &mut io::writer(&rt),
+        &mut [0u8; 14],
+        |bytes, from, to| match bytes.get(..14).and_then(header::parse) {
+            Some((length, room)) => replay_text(from, to, length, room),
+            None => Ok(false),
+        },
+    )
 }

@@ -4,6 +4,7 @@ use Rattle.text.specs.Bytes.{bit}
 use Rattle.text.specs.Pattern.{bytes}
 use Rattle.text.specs.Lines.{LF}
 use Rattle.buffer.specs.Decimal.{decimal}
+use Rattle.marker.specs.Problems.{number_of}
 use Rattle.scan.specs.declared.event.Event.{Event}
 use Rattle.scan.specs.declared.event.Event.TheVariants.{OfSpan, OfRegion, OfProblem}
 
@@ -20,7 +21,7 @@ row_of word fields = word ++ (cells fields ++ (LF ∷ []))
 unfoldable pub row : Event → List ℕ
 row (OfSpan x) = row_of (bytes "span") (x.line ∷ x.spec.start ∷ x.spec.end ∷ x.text.start ∷ x.text.end ∷ [])
 row (OfRegion g) = row_of (bytes "region") (g.opener.line ∷ g.closer.line ∷ g.path.start ∷ g.path.end ∷ bit g.peer ∷ [])
-row (OfProblem n k) = row_of (bytes "problem") (n ∷ k ∷ [])
+row (OfProblem n k) = row_of (bytes "problem") (n ∷ number_of k ∷ [])
 
 -- the rows of each kind, as found
 unfoldable pub span_rows : List Event → List ℕ

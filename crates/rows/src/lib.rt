@@ -6,7 +6,7 @@ ghost use Rattle.rows.specs.Row.{row_of, row as row_of_event};
 ghost use Rattle.rows.specs.Sheet.{add as add_to, put_at, sheet, write};
 
 use buffer::decimal;
-use scan::event::{Event, Region, Span};
+use scan::event::{Event, Span};
 
 // Where the next span, region and problem go.
 #[derive(Clone, Copy)]
@@ -51,14 +51,12 @@ fn format_event(row: &mut [u8], event: Event) -> usize
             let fields = [line, spec.start, spec.end, text.start, text.end];
             format(row, b"span", &fields)
         }
-        Event::OfRegion(region) => {
-            let Region { opener, closer, .. } = region;
-            let path = region.path;
-            let peer = usize::from(region.peer);
-            let fields = [opener.line, closer.line, path.start, path.end, peer];
+        Event::OfRegion(g) => {
+            let peer = usize::from(g.peer);
+            let fields = [g.opener.line, g.closer.line, g.path.start, g.path.end, peer];
             format(row, b"region", &fields)
         }
-        Event::OfProblem { line, number } => format(row, b"problem", &[line, number]),
+        Event::OfProblem { line, problem } => { format(row, b"problem", &[line, problem.number()]) }
     }
 }
 

@@ -3,7 +3,8 @@
 // Saves a text: to a new file beside the one named, which then takes its name. So the name has the old text or the new one, whole.
 ghost use Rattle.std.specs.Prelude.{◌≤◌, length};
 
-use station::{failed, shown};
+use station::failed::Words;
+use station::{argument, failed, shown};
 use std::env::Env;
 use std::fs::{Files, OpenFile, OpenOptions};
 use std::io::{ErrorKind, Write};
@@ -66,17 +67,17 @@ fn replace(
     requires { length name.now ≤ length shown.now }
 {
     if let Err(e) = write_new(files, beside, text) {
-        let _ = failed::say_failed(to, shown, e);
+        let _ = failed::say(to, shown, Words(e));
         return false;
     }
     if let Err(e) = rename(files, beside, name) {
-        let _ = failed::say_failed(to, &shown[..name.len()], e);
+        let _ = failed::say(to, &shown[..name.len()], Words(e));
         return false;
     }
     true
 }
 
-// Saves a text to the file that an argument names. What fails is said on a writer.
+// Saves a text to the file that an argument names. Answers whether it did; what fails is said on a writer.
 pub fn save<R: Env + Files>(rt: &R, to: &mut impl Write, i: usize, text: &[u8]) -> bool {
     let mut name = [0u8; 4096];
     let n = rt.arg(i, &mut name).unwrap_or(0);
@@ -103,18 +104,9 @@ fn is_same(a: &[u8], b: &[u8]) -> bool {
 
 // Whether an argument is the file that a book goes to, or the one beside it.
 fn is_book(env: &impl Env, i: usize, book: &[u8], beside: &[u8]) -> bool {
-    let mut name = [0u8; 4096];
-    let n = env.arg(i, &mut name).unwrap_or(0);
-    is_same(&name[..n], book) || is_same(&name[..n], beside)
-}
-
-// Says of an argument that a book would be written over it.
-fn say_over(env: &impl Env, to: &mut impl Write, i: usize) -> io::Result<()> {
-    let mut name = [0u8; 4096];
-    let n = env.arg(i, &mut name).unwrap_or(0);
-    shown::show(&mut name);
-    to.write_all(&name[..n])?;
-    to.write_all(b": the book would be written over this file\n")
+    let mut room = [0u8; 4096];
+    let name = argument::read(env, i, &mut room);
+    is_same(name, book) || is_same(name, beside)
 }
 
 // Whether one of so many arguments from one on is the file that a book goes to, or the one beside it. The first such is said.
@@ -130,7 +122,9 @@ fn is_given(
 {
     for k in 0..count {
         if is_book(env, first + k, book, beside) {
-            let _ = say_over(env, to, first + k);
+            let mut room = [0u8; 4096];
+            let name = argument::read_shown(env, first + k, &mut room);
+            let _ = failed::say(to, name, "the book would be written over this file");
             return true;
         }
     }

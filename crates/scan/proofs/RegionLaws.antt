@@ -18,8 +18,7 @@ use Rattle.scan.specs.declared.event.Span.{Span}
 use Rattle.marker.specs.declared.line.Kind.{Kind}
 use Rattle.marker.specs.declared.line.Kind.TheVariants.{Plain, Fence, Fault, Closes, Opens, Spans}
 use Rattle.scan.specs.declared.region.Cursor.{Cursor}
-use Rattle.marker.specs.declared.span.Stop.{Stop}
-use Rattle.marker.specs.declared.span.Stop.TheVariants.{AtProblem, AtSpanEnd}
+use Rattle.marker.specs.declared.problem.Problem.{Problem}
 use Rattle.scan.specs.declared.state.Opener.{Opener}
 use Rattle.scan.specs.declared.state.State.{State}
 use Rattle.marker.proofs.MarkerLaws.{kind-closes}
@@ -33,10 +32,10 @@ regions_append (OfRegion g ∷ a) b = ap (λ (r : List Region). g ∷ r) (region
 regions_append (OfProblem n k ∷ a) b = regions_append a b
 
 -- a line that closes no region gives none
-spans-none : (n : ℕ) (xs : List Span) (t : Stop) → regions_of (map OfSpan xs ++ stop_events n t) ≡ []
+spans-none : (n : ℕ) (xs : List Span) (t : Option Problem) → regions_of (map OfSpan xs ++ stop_events n t) ≡ []
 unfolding regions_of
-spans-none n [] (AtProblem k) = refl
-spans-none n [] AtSpanEnd = refl
+spans-none n [] (Some k) = refl
+spans-none n [] None = refl
 spans-none n (x ∷ xs) t = spans-none n xs t
 
 pub line-none : (st : State) (n o : ℕ) (l : List ℕ) (kind : Kind) → (kind ≡ Closes → ⊥) → regions_of (events_of st n o l kind) ≡ []
@@ -45,7 +44,7 @@ line-none st n o l Plain h = refl
 line-none st n o l Fence h = refl
 line-none st n o l (Fault k) h = refl
 line-none st n o l Closes h = absurd (h refl)
-line-none st n o l (Opens a e peer) h = refl
+line-none st n o l (Opens p) h = refl
 line-none st n o l (Spans i) h = spans-none n (read_line n (o + i) (drop i l)).spans (read_line n (o + i) (drop i l)).stop
 
 pub last_none : (region : Option Opener) (fence : Bool) (k : ℕ) → regions_of (last_of (record { fence = fence; region = region }) k) ≡ []

@@ -9,10 +9,10 @@ use mathlib.Core.List.{List, [], ◌∷◌, ◌++◌, append-nil}
 use lib.ListN.{length, drop, length-drop, drop_of_length-le}
 use lib.Seq.{drop-drop}
 use borrow.Author.Tests.{not-true}
+use Rattle.text.specs.declared.part.Part.{Part}
 use Rattle.text.specs.Bytes.{part}
 use Rattle.text.specs.Pattern.{starts_with, find, contains}
 use Rattle.text.specs.Lines.{Line, lines_from}
-use Rattle.text.proofs.BytesLaws.{rest, rest-length}
 use Rattle.text.proofs.PatternLaws.{and_left, and_right}
 use Rattle.fence.specs.Fences.{is_fence}
 use Rattle.marker.specs.Marker.{OPEN, next_mark, first_of}
@@ -21,7 +21,7 @@ use Rattle.scan.specs.Skip.{all_plain, Sought}
 use Rattle.marker.specs.declared.line.Kind.TheVariants.{Spans}
 use Rattle.marker.specs.declared.span.Mark.{Mark}
 use Rattle.marker.specs.declared.span.Mark.TheVariants.{Marked, Problem, End}
-use Rattle.marker.specs.declared.span.Stop.TheVariants.{AtProblem, AtSpanEnd}
+use Rattle.marker.specs.declared.problem.Problem as problems
 use Rattle.scan.specs.declared.state.State.{State}
 use Rattle.marker.proofs.MarkerLaws.{kind-plain, kind-spans, mark-within}
 
@@ -76,9 +76,9 @@ read_enough (suc f) n o r h = go (next_mark o r) refl (λ p t k. read_enough f n
   where
     go : (m : Mark) → next_mark o r ≡ m → ((p : ℕ) (t : List ℕ) → length t ≤ f → read_from f n p t ≡ read_from (suc f) n p t)
         → read_by n o (λ p. read_from f n p (drop (p - o) r)) m ≡ read_by n o (λ p. read_from (suc f) n p (drop (p - o) r)) m
-    go (Marked a b c d) e ih =
-        ap (then_read (span_of n a b c d))
-        (ih (d + 10) (drop (d + 10 - o) r) (omega (arith, length-drop (d + 10 - o) r, mark-within o r a b c d e)))
+    go (Marked a b) e ih =
+        ap (then_read (span_of n a b))
+        (ih (b.end + 10) (drop (b.end + 10 - o) r) (omega (arith, length-drop (b.end + 10 - o) r, mark-within o r a b e)))
     go (Problem k) e ih = refl
     go End e ih = refl
 
@@ -91,9 +91,9 @@ unfolding read_line
 left-start l n o = rw add-zero
 
 read_next : (l : List ℕ) (n o i : ℕ) → left_at l n o i
-    ≡ read_by n (o + i) (λ p. read_from (length l) n p (drop (p - (o + i)) (drop i l))) (next_mark (o + i) (part i (length l) l))
+    ≡ read_by n (o + i) (λ p. read_from (length l) n p (drop (p - (o + i)) (drop i l))) (next_mark (o + i) (drop i l))
 unfolding read_from
-read_next l n o i = read_enough (length l) n (o + i) (drop i l) (omega (arith, length-drop i l)) ∙ rw (rest l i)
+read_next l n o i = read_enough (length l) n (o + i) (drop i l) (omega (arith, length-drop i l))
 
 -- the first marker of a line lies in it
 pub kind-within : (st : State) (o i : ℕ) (l : List ℕ) → kind_at st o l ≡ Spans i → i ≤ length l
@@ -103,30 +103,30 @@ kind-within st o i l h = kind-spans st.fence (is_some st.region) o i l h
 -- the marker at place i of line n, l: a span, a problem, or none
 module _ (l : List ℕ) (n o i : ℕ) where
   abbrev Here : Mark → Type 0
-  Here m = m ≡ next_mark (o + i) (part i (length l) l)
+  Here m = m ≡ next_mark (o + i) (drop i l)
 
-  pub left_problem : (k : ℕ) → Here (Problem k) → left_at l n o i ≡ stopped (AtProblem k)
+  pub left_problem : (k : problems.Problem) → Here (Problem k) → left_at l n o i ≡ stopped (Some k)
   unfolding read_by
   left_problem k e = read_next l n o i ∙ rw (← e)
 
-  pub left_end : Here End → left_at l n o i ≡ stopped AtSpanEnd
+  pub left_end : Here End → left_at l n o i ≡ stopped None
   unfolding read_by
   left_end e = read_next l n o i ∙ rw (← e)
 
-  module _ (a b c d : ℕ) (e : Here (Marked a b c d)) where
-    pub span_within : (o + i < d) × (d + 10 ≤ o + length l)
-    span_within = omega (arith, mark-within (o + i) (part i (length l) l) a b c d (sym e), rest-length l i)
+  module _ (a b : Part) (e : Here (Marked a b)) where
+    pub span_within : (o + i < b.end) × (b.end + 10 ≤ o + length l)
+    span_within = omega (arith, mark-within (o + i) (drop i l) a b (sym e), length-drop i l)
 
-    pub left_span : left_at l n o i ≡ then_read (span_of n a b c d) (left_at l n o (d + 10 - o))
+    pub left_span : left_at l n o i ≡ then_read (span_of n a b) (left_at l n o (b.end + 10 - o))
     unfolding read_by
     left_span =
         let w = span_within in
-        let q : i + (d + 10 - (o + i)) ≡ d + 10 - o = omega arith in
-        let r : d + 10 ≡ o + (d + 10 - o) = omega arith in
+        let q : i + (b.end + 10 - (o + i)) ≡ b.end + 10 - o = omega arith in
+        let r : b.end + 10 ≡ o + (b.end + 10 - o) = omega arith in
         read_next l n o i
         ∙ rw (← e)
-        (ap (λ (z : List ℕ). then_read (span_of n a b c d) (read_from (length l) n (d + 10) z)) (drop-drop (d + 10 - (o + i)) i l ∙ ap (λ (j : ℕ). drop j l) q)
-        ∙ ap (λ (p : ℕ). then_read (span_of n a b c d) (read_from (length l) n p (drop (d + 10 - o) l))) r)
+        (ap (λ (z : List ℕ). then_read (span_of n a b) (read_from (length l) n (b.end + 10) z)) (drop-drop (b.end + 10 - (o + i)) i l ∙ ap (λ (j : ℕ). drop j l) q)
+        ∙ ap (λ (p : ℕ). then_read (span_of n a b) (read_from (length l) n p (drop (b.end + 10 - o) l))) r)
 
-    pub span_stop : (left_at l n o (d + 10 - o)).stop ≡ (left_at l n o i).stop
+    pub span_stop : (left_at l n o (b.end + 10 - o)).stop ≡ (left_at l n o i).stop
     span_stop = ap (λ (r : Reading). r.stop) (sym left_span)

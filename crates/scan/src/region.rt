@@ -14,7 +14,7 @@ pub struct Cursor {
     pub line: usize,
 }
 
-// The region that line n, at place o, closes, and the cursor at the next line.
+// The region that line n, at place o, closes, and the cursor at the next line; None where no region is open.
 fn closed_at(region: Option<Opener>, n: usize, o: usize, next: usize) -> Option<(Region, Cursor)>
     ensures { result ≡ closed_at region n o next }
 {
@@ -22,7 +22,7 @@ fn closed_at(region: Option<Opener>, n: usize, o: usize, next: usize) -> Option<
     Some((closed, Cursor { at: next, line: n }))
 }
 
-// The next whole region from a cursor on.
+// The next whole region from a cursor on, and the cursor at the line behind its closer; None where there is no such region.
 pub fn next_region(s: &[u8], from: Cursor) -> Option<(Region, Cursor)>
     requires { (from.at ≤ length s.now) × (from.line ≤ from.at) }
     ensures { FoundRegion s.now from result }
@@ -30,7 +30,7 @@ pub fn next_region(s: &[u8], from: Cursor) -> Option<(Region, Cursor)>
     let mut state = state::begin();
     let mut cursor = from;
     while let Some(line) = seek::next_line(s, cursor.at, cursor.line) {
-        let kind = state::kind_at(state, line.start, &s[line.start..line.end]);
+        let kind = state::kind_at(state, line.within(s));
         if let Kind::Closes = kind {
             return closed_at(state.region, line.number, line.start, line.next);
         }

@@ -3,6 +3,7 @@ ghost use Rattle.std.specs.Prelude.{◌≡◌, false, ◌-◌, ◌≤◌, length
 ghost use Rattle.text.specs.Bytes.{part};
 ghost use Rattle.scan.specs.Skip.{any_three, trace, hint, Sought};
 
+use marker::line::Line;
 use text::{bytes, lines};
 
 // A line: its number, where it starts and ends, and where the next one starts.
@@ -12,6 +13,19 @@ pub struct LineAt {
     pub start: usize,
     pub end: usize,
     pub next: usize,
+}
+
+impl LineAt {
+    // The line itself, in its text.
+    pub fn within(self, s: &[u8]) -> Line
+        requires { (self.start ≤ self.end) × (self.end ≤ length s.now) }
+        ensures { (result.at ≡ self.start) × (result.bytes.now ≡ part self.start self.end s.now) }
+    {
+        Line {
+            at: self.start,
+            bytes: &s[self.start..self.end],
+        }
+    }
 }
 
 // Whether the trace of a hint stands in s: a quicker test, which reads two bytes of three. `-` and `[` differ by 76 hex.
@@ -64,7 +78,7 @@ fn skip_blocks(s: &[u8], from: usize) -> usize
     if has_hint(&s[rest..]) { rest } else { s.len() }
 }
 
-// The next line to look at from place a on, where a line starts after n lines.
+// The next line to look at from place a on, where a line starts after n lines; None where there is none.
 pub fn next_line(s: &[u8], a: usize, n: usize) -> Option<LineAt>
     requires { (a ≤ length s.now) × (n ≤ a) }
     ensures { Sought s.now a n result }

@@ -1,10 +1,10 @@
 // What is open at a line of a scan.
-ghost use Rattle.std.specs.Prelude.{◌≡◌, ◌+◌, ◌<◌, ◌^◌, length};
+ghost use Rattle.std.specs.Prelude.{◌≡◌};
 ghost use Rattle.scan.specs.Scan.{begin as beginning, kind_at, after as after_kind, region_of};
 
 use crate::event::{LineStart, Region};
 use marker::line;
-use marker::line::Kind;
+use marker::line::{Fragment, Kind, Line};
 use text::part::Part;
 
 // The opener of a region: its line, where its path stands, and whether it is a peer.
@@ -31,13 +31,12 @@ pub fn begin() -> State
     }
 }
 
-// What a line at place o is.
+// What a line is.
 #[tactic(auto, unfolding(crate::specs::Scan::kind_at))]
-pub fn kind_at(state: State, o: usize, line: &[u8]) -> Kind
-    requires { o + length line.now < 2 ^ 64 }
-    ensures { result ≡ kind_at state o line.now }
+pub fn kind_at(state: State, line: Line) -> Kind
+    ensures { result ≡ kind_at state line.entry.at line.entry.bytes.now }
 {
-    line::kind_of(line, o, state.fence, state.region.is_some())
+    line::kind_of(line, state.fence, state.region.is_some())
 }
 
 // The state after line n, at place o and of a kind.
@@ -55,10 +54,10 @@ pub fn after(state: State, n: usize, o: usize, kind: Kind) -> State
             region: None,
             ..state
         },
-        Kind::Opens { start, end, peer } => State {
+        Kind::Opens(Fragment { path, peer }) => State {
             region: Some(Opener {
                 marker: LineStart { line: n, at: o },
-                path: Part { start, end },
+                path,
                 peer,
             }),
             ..state

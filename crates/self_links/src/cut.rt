@@ -2,7 +2,8 @@
 ghost use Rattle.std.specs.Prelude.{◌≤◌, length};
 ghost use Rattle.self_links.specs.Cuts.{FoundCut};
 
-use link::{links, target};
+use link::links;
+use link::target::{self, Embedding};
 
 #[derive(Clone, Copy)]
 pub struct Cut {
@@ -11,14 +12,14 @@ pub struct Cut {
     pub next: usize,
 }
 
-// The first bytes that go, from a place of a line on, where the line's file is in a directory.
-pub fn next_cut(line: &[u8], from: usize, dir: &[u8], host: &[u8]) -> Option<Cut>
+// The first bytes that go, from a place of a line on; None where none go.
+pub fn next_cut(line: &[u8], from: usize, embedding: Embedding) -> Option<Cut>
     requires { from ≤ length line.now }
-    ensures { FoundCut host.now dir.now line.now from result }
+    ensures { FoundCut embedding.entry.host.now embedding.entry.dir.now line.now from result }
 {
     let mut i = from;
     while let Some(link) = links::next_link(line, i) {
-        let n = target::anchor_self(&line[link.start..link.end], dir, host);
+        let n = target::anchor_self(&line[link.start..link.end], embedding);
         if 0 < n {
             return Some(Cut {
                 start: link.start,

@@ -1,23 +1,44 @@
 #![tactic(auto)]
 
 // Prints the sentence of each refusal, a line each: its number, a tab and the sentence, with {} where a name stands.
+use answer::{Place, Refusal};
 use std::io;
 use std::io::Write;
 
-fn print_sentence(to: &mut impl Write, number: u64) -> io::Result<()> {
-    write!(to, "{number}\t")?;
-    words::say_first(to, number)?;
-    if words::has_name(number) {
-        to.write_all(b"{}")?;
-    }
-    words::say_last(to, number)?;
-    to.write_all(b"\n")
-}
+const PLACE: Place = Place { file: 0, line: 0 };
+
+// Each refusal, in the order of the table.
+const REFUSALS: [Refusal; 19] = [
+    Refusal::IndexLine(0),
+    Refusal::TooManyRecords,
+    Refusal::PastContents(0),
+    Refusal::NameTwice(0),
+    Refusal::WideByte(PLACE),
+    Refusal::NameForm,
+    Refusal::ListForm,
+    Refusal::Sizes,
+    Refusal::NestedRegion(PLACE),
+    Refusal::FragmentMarker(PLACE),
+    Refusal::UnclosedRegion(PLACE),
+    Refusal::PeerWithoutHeading(PLACE),
+    Refusal::OnChain(PLACE),
+    Refusal::Absent(PLACE),
+    Refusal::Allowance(PLACE),
+    Refusal::HeadingLevel(PLACE),
+    Refusal::TextLimit(PLACE),
+    Refusal::NoTitle(0),
+    Refusal::SharedAnchor(PLACE, PLACE),
+];
 
 fn main(rt: HostRuntime) -> io::Result<()> {
     let mut out = io::writer(&rt);
-    for number in 1..=19 {
-        print_sentence(&mut out, number)?;
+    for refusal in REFUSALS {
+        let number = refusal.number();
+        let first = words::up_to_name(refusal);
+        match words::behind_name(refusal) {
+            Some(rest) => writeln!(out, "{number}\t{first}{{}}{rest}")?,
+            None => writeln!(out, "{number}\t{first}")?,
+        }
     }
     Ok(())
 }

@@ -1,12 +1,13 @@
 -- Laws of a member that is compared: the table of marks that is lent and comes back, and the walk of its headings. Assumes nothing.
-use Rattle.std.specs.Prelude.{Option, Some, None}
+use Rattle.std.specs.Prelude.{Option, Some, None, All}
+use Rattle.std.proofs.lemmas.List.{get_or_append_left, map_push}
+use Rattle.std.proofs.lemmas.List.Elements.{All-map, All-contains, Contains-push}
 use Prim.Native.Nat.{ℕ, ◌+◌, ◌-◌, ◌≤◌, ◌<◌}
-use native.Mathlib.Nat.{zero-add}
 use native.Mathlib.Omega.{arith}
 use mathlib.Core.Path.{◌≡◌, refl, sym, ap, ◌∙◌}
 use mathlib.Core.Bool.{Bool, false}
-use mathlib.Core.List.{List, [], ◌++◌, append_assoc}
-use lib.ListN.{length, take, drop, length-append, length-drop}
+use mathlib.Core.List.{List, [], ◌∷◌, ◌++◌, append_assoc}
+use lib.ListN.{length, take, drop, get_or, length-append, length-drop}
 use lib.Seq.{take_at, drop_at, length-take-le}
 use Rattle.member.specs.declared.lines.KeptHeading.{KeptHeading}
 use Rattle.answer.specs.Answer.{place}
@@ -19,15 +20,18 @@ use Rattle.put.specs.Put.{source_text, Inside, part_of}
 use Rattle.put.specs.declared.Source.{Source}
 use Rattle.member.specs.Lines.{kept_lines, left_of, at_first, CursorIn, Plain, IsHeading, FoundHeading}
 use Rattle.member.specs.declared.lines.LineCursor.{LineCursor}
-use Rattle.members.specs.Members.{member_at, name_of, text_source, prepared_in, prepared_from, AllStand}
-use Rattle.members.proofs.MembersLaws.{prepared_more, prepared_up, source_up, inside-part, inside_more, text-inside}
+use Rattle.member.specs.Member.{Prepared}
+use Rattle.members.specs.Members.{name_of, text_source, prepared_in, all_prepared, Stands, Agree, AllStand}
+use Rattle.members.specs.declared.Member.{Member}
+use Rattle.members.proofs.MembersLaws.{prepared_up, source_up, inside_more, text-inside, stand_take}
+use Rattle.put.proofs.PutLaws.{inside-part}
 use Rattle.earlier.specs.Earlier.{earlier}
 use Rattle.shared.specs.Shared.{shared_in}
 use Rattle.marks.specs.Marks.{Marks}
 use Rattle.shared.specs.Tells.{TellsLines, Tells, SharedOf}
 use Rattle.earlier.proofs.LineLaws.{first_in, first-left, part-fits, part-text}
 use Rattle.shared.proofs.LineLaws.{shared_none, shared_next, tells_plain, tells_append, up_to, left_up, tells_up}
-use Rattle.shared.proofs.TellsLaws.{lines-still, tells_still, tells_more, earlier-none}
+use Rattle.shared.proofs.TellsLaws.{lines-still, tells_still, tells_more, Numbered, earlier-none}
 
 -- a part that was lent and has come back
 abbrev pub backed : List ℕ → List ℕ → ℕ → ℕ → List ℕ
@@ -45,26 +49,45 @@ module _ (w y : List ℕ) (a e : ℕ) (order : a ≤ e) (fits : e ≤ length w) 
   pub back_long : length (backed w y a e) ≡ length w
   back_long = simp (length-append, length-take-le a w (omega arith), length-drop) (omega arith)
 
--- the walk of member i's headings has come to a cursor, and the work buffer was w₀ and is w
-pub record Walked (index contents set : List ℕ) (i table stop : ℕ) (w₀ : List ℕ) (file : ℕ) (text : Source) (w : List ℕ) (c : LineCursor) : Type 0 where
-  pub file-is : file ≡ (member_at set i).file
-  pub text-is : text ≡ text_source (member_at set i)
+-- members that stand, and one more behind them
+module _ {index : List ℕ} {n limit stop : ℕ} (before : List Member) (member : Member) (all : AllStand index n limit stop (before ++ (member ∷ []))) where
+  pub member-stands : Stands (length index) n limit stop member
+  member-stands = All-contains (Stands (length index) n limit stop) (before ++ (member ∷ [])) member all.stand (Contains-push before member)
+
+  pub before-stand : AllStand index n limit stop before
+  before-stand = rw (take_at before (member ∷ []) (length before) refl) at (stand_take (length before) all)
+
+  firsts : (contents work : List ℕ) → All (λ q. 1 ≤ q.file) (all_prepared index contents work before)
+  firsts contents work = All-map (λ q. 1 ≤ q.file) (prepared_in index contents work) before (λ k d h. (before-stand.stand k d h).lies.first)
+
+  numbered : (contents work : List ℕ) → All (Numbered member.file (name_of index member)) (all_prepared index contents work before)
+  numbered contents work = All-map (Numbered member.file (name_of index member)) (prepared_in index contents work) before (λ k d h.
+      let l = (before-stand.stand k d h).lies in
+      record { first = l.first; last = l.last; same = agrees k d h })
+    where
+      agrees : (k : ℕ) (d : Member) → k < length before → Agree index (get_or before k d) member
+      agrees k d h =
+          rw (get_or_append_left before (member ∷ []) d k h) at (All-contains (Agree index (get_or (before ++ (member ∷ [])) k d)) (before ++ (member ∷ [])) member
+          (all.same k d (omega (arith, length-append before (member ∷ [])))) (Contains-push before member))
+
+-- the walk of a member's headings has come to a cursor, and the work buffer was w₀ and is w
+pub record Walked (index contents : List ℕ) (before : List Member) (member : Member) (table stop : ℕ) (w₀ : List ℕ) (text : Source) (w : List ℕ) (c : LineCursor) : Type 0 where
+  pub text-is : text ≡ text_source member
   pub long : length w ≡ length w₀
   pub same : take table w ≡ take table w₀
   pub inside : CursorIn c (source_text text contents w₀)
-  pub tells : Tells (part table stop w) (prepared_from index contents w₀ set 0 i)
+  pub tells : Tells (part table stop w) (all_prepared index contents w₀ before)
   pub done : List Told
   pub whole : kept_lines (source_text text contents w₀) ≡ done ++ left_of c (source_text text contents w₀)
-  pub told : TellsLines (part table stop w) file done
-  pub left : shared_in (prepared_from index contents w₀ set 0 i) (prepared_in index contents w₀ (member_at set i)) 1 (prepared_in index contents w₀ (member_at set i)).lines
-      ≡ shared_in (prepared_from index contents w₀ set 0 i) (prepared_in index contents w₀ (member_at set i)) (c.line + 1) (left_of c (source_text text contents w₀))
+  pub told : TellsLines (part table stop w) member.file done
+  pub left : shared_in (all_prepared index contents w₀ before) (prepared_in index contents w₀ member) 1 (prepared_in index contents w₀ member).lines
+      ≡ shared_in (all_prepared index contents w₀ before) (prepared_in index contents w₀ member) (c.line + 1) (left_of c (source_text text contents w₀))
 
-pub walk_start : (index contents set : List ℕ) (i table stop : ℕ) (w : List ℕ) → Tells (part table stop w) (prepared_from index contents w set 0 i)
-    → Walked index contents set i table stop w (member_at set i).file (text_source (member_at set i)) w at_first
+pub walk_start : (index contents : List ℕ) (before : List Member) (member : Member) (table stop : ℕ) (w : List ℕ) → Tells (part table stop w) (all_prepared index contents w before)
+    → Walked index contents before member table stop w (text_source member) w at_first
 unfolding TellsLines
-walk_start index contents set i table stop w t = let s : List ℕ = source_text (text_source (member_at set i)) contents w in
+walk_start index contents before member table stop w t = let s : List ℕ = source_text (text_source member) contents w in
     record {
-      file-is = refl;
       text-is = refl;
       long = refl;
       same = refl;
@@ -73,13 +96,20 @@ walk_start index contents set i table stop w t = let s : List ℕ = source_text 
       done = [];
       whole = sym (first-left s);
       told = tt;
-      left = ap (shared_in (prepared_from index contents w set 0 i) (prepared_in index contents w (member_at set i)) 1) (sym (first-left s));
+      left = ap (shared_in (all_prepared index contents w before) (prepared_in index contents w member) 1) (sym (first-left s));
     }
 
-module _ {index contents set : List ℕ} {i table stop : ℕ} {w₀ : List ℕ} {file : ℕ} {text : Source} {w : List ℕ} {c : LineCursor}
-    (all : AllStand index (length contents) 0 table set (i + 1)) (order : table < stop) (fits : stop ≤ length w₀) (x : Walked index contents set i table stop w₀ file text w c) where
+module _ {index contents : List ℕ} {before : List Member} {member : Member} {table stop : ℕ} {w₀ : List ℕ} {text : Source} {w : List ℕ} {c : LineCursor}
+    (all : AllStand index (length contents) 0 table (before ++ (member ∷ []))) (order : table < stop) (fits : stop ≤ length w₀)
+    (x : Walked index contents before member table stop w₀ text w c) where
+  abbrev qs : List Prepared
+  qs = all_prepared index contents w₀ before
+
+  abbrev mine : Prepared
+  mine = prepared_in index contents w₀ member
+
   text-lies : Inside text 0 (length contents) table
-  text-lies = rw x.text-is (text-inside (all.stand i (omega arith)))
+  text-lies = rw x.text-is (text-inside (member-stands before member all))
 
   pub text_read : (v : List ℕ) → length v ≡ length w₀ → Inside text 0 (length contents) (length v)
   text_read v l = inside_more text 0 (length contents) table text-lies (length v) (omega arith)
@@ -92,20 +122,18 @@ module _ {index contents set : List ℕ} {i table stop : ℕ} {w₀ : List ℕ} 
 
   -- no heading is left
   module _ (p : Plain (left_of c (source_text text contents w₀))) where
-    pub walk_none : shared_in (prepared_from index contents w₀ set 0 i) (prepared_in index contents w₀ (member_at set i)) 1 (prepared_in index contents w₀ (member_at set i)).lines ≡ []
-    walk_none = x.left ∙ shared_none (prepared_from index contents w₀ set 0 i) (prepared_in index contents w₀ (member_at set i)) (c.line + 1) (left_of c (source_text text contents w₀)) p
+    pub walk_none : shared_in qs mine 1 mine.lines ≡ []
+    walk_none = x.left ∙ shared_none qs mine (c.line + 1) (left_of c (source_text text contents w₀)) p
 
-    all_told : TellsLines (part table stop w) (member_at set i).file (prepared_in index contents w₀ (member_at set i)).lines
+    all_told : TellsLines (part table stop w) member.file mine.lines
     all_told =
-        let t : TellsLines (part table stop w) file (kept_lines (source_text text contents w₀)) =
+        let t : TellsLines (part table stop w) member.file (kept_lines (source_text text contents w₀)) =
         rw x.whole
-        (tells_append (part table stop w) file x.done (left_of c (source_text text contents w₀)) x.told (tells_plain (part table stop w) file (left_of c (source_text text contents w₀)) p)) in
-        rw (x.file-is, x.text-is) at t
+        (tells_append (part table stop w) member.file x.done (left_of c (source_text text contents w₀)) x.told (tells_plain (part table stop w) member.file (left_of c (source_text text contents w₀)) p)) in
+        rw x.text-is at t
 
-    pub walk_tells : Tells (part table stop w) (prepared_from index contents w₀ set 0 (i + 1))
-    walk_tells =
-        rw (prepared_more index contents w₀ set 0 i, zero-add i)
-        (tells_more (part table stop w) (prepared_from index contents w₀ set 0 i) (prepared_in index contents w₀ (member_at set i)) x.tells all_told)
+    pub walk_tells : Tells (part table stop w) (all_prepared index contents w₀ (before ++ (member ∷ [])))
+    walk_tells = rw (map_push (prepared_in index contents w₀) before member) (tells_more (part table stop w) qs mine x.tells all_told)
 
   -- a heading
   module _ {n p q : ℕ} {d : LineCursor} (h : IsHeading (source_text text contents w₀) c n p q d) where
@@ -122,9 +150,9 @@ module _ {index contents set : List ℕ} {i table stop : ℕ} {w₀ : List ℕ} 
 
       -- where it has its anchor before
       abbrev pub second : Option Place
-      second = earlier (name_of index (member_at set i)) (slug (part p q (source_text text contents w₀))) (prepared_from index contents w₀ set 0 i)
+      second = earlier (name_of index member) (slug (part p q (source_text text contents w₀))) qs
 
-      module _ {number : ℕ} (is_number : number ≡ anchor_number (slug (source_text head contents w))) {y : List ℕ} {maybe : Bool} (m : Marks (part table stop w) y number file maybe) where
+      module _ {number : ℕ} (is_number : number ≡ anchor_number (slug (source_text head contents w))) {y : List ℕ} {maybe : Bool} (m : Marks (part table stop w) y number member.file maybe) where
         lent : length y ≡ stop - table
         lent = m.long ∙ part_full w table stop (omega (arith, x.long))
 
@@ -142,53 +170,27 @@ module _ {index contents set : List ℕ} {i table stop : ℕ} {w₀ : List ℕ} 
 
         -- the table spares the search, or it finds a place
         pub second-alone : maybe ≡ false → second ≡ None
-        second-alone e =
-            earlier-none
-            all
-            contents
-            w₀
-            (part table stop w)
-            (slug (part p q (source_text text contents w₀)))
-            i
-            (omega arith)
-            (λ f a b k. m.alone e f a b (rw number_of k) ∙ x.file-is)
-            0
-            i
-            (omega arith)
-            x.tells
+        second-alone e = earlier-none _ (λ f a b k. m.alone e f a b (rw number_of k)) qs (numbered before member all contents w₀) x.tells
 
         pub second-found : (r : Option Place)
-            → r ≡ earlier (name_of index (member_at set i)) (slug (source_text head contents (backed w y table stop))) (prepared_from index contents (backed w y table stop) set 0 i)
+            → r ≡ earlier (name_of index member) (slug (source_text head contents (backed w y table stop))) (all_prepared index contents (backed w y table stop) before)
             → r ≡ second
-        second-found r e = e ∙ rw (head-text (backed w y table stop) next-same, prepared_up contents (backed w y table stop) w₀ 0 i (omega arith) all next-same)
+        second-found r e = e ∙ rw (head-text (backed w y table stop) next-same, prepared_up contents (backed w y table stop) w₀ (before-stand before member all) next-same)
 
-        pub walk-next : second ≡ None → Walked index contents set i table stop w₀ file text (backed w y table stop) d
+        pub walk-next : second ≡ None → Walked index contents before member table stop w₀ text (backed w y table stop) d
         walk-next e = record {
-          file-is = x.file-is;
           text-is = x.text-is;
           long = next-long;
           same = next-same;
           inside = h.next;
-          tells = rw next-table (tells_still all contents w₀ m 0 i (omega arith) x.tells);
+          tells = rw next-table (tells_still m qs (firsts before member all contents w₀) x.tells);
           done = x.done ++ up_to h;
           whole = x.whole ∙ ap (λ (ts : List Told). x.done ++ ts) (left_up h) ∙ sym (append_assoc x.done (up_to h) (left_of d (source_text text contents w₀)));
           told =
               rw next-table
-              (tells_append y file x.done (up_to h) (lines-still m file one x.done x.told) (tells_up h y file (rw number_of at m.own)));
-          left =
-              x.left
-              ∙ shared_next h (prepared_from index contents w₀ set 0 i) (prepared_in index contents w₀ (member_at set i))
-              ∙ rw e;
+              (tells_append y member.file x.done (up_to h) (lines-still m member.file (member-stands before member all).lies.first x.done x.told) (tells_up h y member.file (rw number_of at m.own)));
+          left = x.left ∙ shared_next h qs mine ∙ rw e;
         }
-          where
-            one : 1 ≤ file
-            one = rw x.file-is (all.stand i (omega arith)).lies.first
 
-        pub walk_hit : (r : Place) → Some r ≡ second
-            → SharedOf (shared_in (prepared_from index contents w₀ set 0 i) (prepared_in index contents w₀ (member_at set i)) 1 (prepared_in index contents w₀ (member_at set i)).lines) (Some ((place file d.line), r))
-        walk_hit r e = (
-          shared_in (prepared_from index contents w₀ set 0 i) (prepared_in index contents w₀ (member_at set i)) (d.line + 1) (left_of d (source_text text contents w₀)),
-          x.left
-              ∙ shared_next h (prepared_from index contents w₀ set 0 i) (prepared_in index contents w₀ (member_at set i))
-              ∙ rw (← e, x.file-is),
-        )
+        pub walk_hit : (r : Place) → Some r ≡ second → SharedOf (shared_in qs mine 1 mine.lines) (Some ((place member.file d.line), r))
+        walk_hit r e = (shared_in qs mine (d.line + 1) (left_of d (source_text text contents w₀)), x.left ∙ shared_next h qs mine ∙ rw (← e))

@@ -1,18 +1,18 @@
 -- Laws of members that are compared, one after the other. Assumes nothing.
 use Rattle.std.specs.Prelude.{Option, Some}
-use Prim.Native.Nat.{ℕ, ◌+◌, ◌-◌, ◌≤◌, ◌<◌}
-use native.Mathlib.Nat.{zero-add, sub-zero}
-use native.Mathlib.Omega.{arith}
+use Rattle.std.proofs.lemmas.List.{take_more, map_more, at_drop_more, at_drop_all}
+use Prim.Native.Nat.{ℕ, ◌+◌, ◌≤◌, ◌<◌}
 use mathlib.Core.Path.{◌≡◌, refl, sym, ap, ◌∙◌}
 use mathlib.Core.List.{List, [], ◌∷◌, ◌++◌}
-use lib.ListN.{length, take}
+use lib.ListN.{length, take, drop, get_or}
 use Rattle.answer.specs.declared.Place.{Place}
 use Rattle.answer.specs.declared.Refusal.{Refusal}
 use Rattle.answer.specs.declared.Refusal.TheVariants.{SharedAnchor}
 use Rattle.text.specs.Bytes.{part}
 use Rattle.member.specs.Member.{Prepared}
-use Rattle.members.specs.Members.{member_at, prepared_in, prepared_from, AllStand}
-use Rattle.members.proofs.MembersLaws.{prepared_more, prepared_at, prepared_end, prepared_up, prepared_same, source_up}
+use Rattle.members.specs.Members.{prepared_in, all_prepared, AllStand}
+use Rattle.members.specs.declared.Member.{Member}
+use Rattle.members.proofs.MembersLaws.{prepared_up, prepared_same, source_up, stand_take}
 use Rattle.shared.specs.Shared.{shared_in, shared_from}
 use Rattle.shared.specs.Tells.{Tells, SharedOf}
 
@@ -27,79 +27,74 @@ module _ (qs : List Prepared) (m : Prepared) (ms : List Prepared) where
   from_some x xs e = rw e
 
 -- the members before member i are compared, and the work buffer was w₀ and is w
-pub record Compared (index contents set : List ℕ) (count table stop : ℕ) (w₀ w : List ℕ) (i : ℕ) : Type 0 where
-  pub few : i ≤ count
+pub record Compared (index contents : List ℕ) (ms : List Member) (table stop : ℕ) (w₀ w : List ℕ) (i : ℕ) : Type 0 where
   pub long : length w ≡ length w₀
   pub same : take table w ≡ take table w₀
-  pub tells : Tells (part table stop w) (prepared_from index contents w₀ set 0 i)
-  pub left : shared_from [] (prepared_from index contents w₀ set 0 count) ≡ shared_from (prepared_from index contents w₀ set 0 i) (prepared_from index contents w₀ set i (count - i))
+  pub tells : Tells (part table stop w) (all_prepared index contents w₀ (take i ms))
+  pub left : shared_from [] (all_prepared index contents w₀ ms) ≡ shared_from (all_prepared index contents w₀ (take i ms)) (all_prepared index contents w₀ (drop i ms))
 
-pub compared_start : (index contents set : List ℕ) (count table stop : ℕ) (w : List ℕ) → Compared index contents set count table stop w w 0
-unfolding Tells prepared_from
-compared_start index contents set count table stop w = record { few = omega arith; long = refl; same = refl; tells = tt; left = rw (sub-zero count) }
+pub compared_start : (index contents : List ℕ) (ms : List Member) (table stop : ℕ) (w : List ℕ) → Compared index contents ms table stop w w 0
+unfolding Tells
+compared_start index contents ms table stop w = record { long = refl; same = refl; tells = tt; left = refl }
 
-module _ {index contents set : List ℕ} {count table stop : ℕ} {w₀ w : List ℕ} {i : ℕ}
-    (all : AllStand index (length contents) 0 table set count) (x : Compared index contents set count table stop w₀ w i) where
-  pub compared_end : count ≤ i → shared_from [] (prepared_from index contents w₀ set 0 count) ≡ []
+-- member i stands behind those before it
+pub turn_stand : {index : List ℕ} {n limit stop : ℕ} {ms : List Member} {i : ℕ} → AllStand index n limit stop ms → i < length ms → (d : Member)
+    → AllStand index n limit stop (take i ms ++ (get_or ms i d ∷ []))
+turn_stand {ms = ms} {i = i} all h d = rw (take_more ms i d h) at (stand_take (i + 1) all)
+
+module _ {index contents : List ℕ} {ms : List Member} {table stop : ℕ} {w₀ w : List ℕ} {i : ℕ}
+    (all : AllStand index (length contents) 0 table ms) (x : Compared index contents ms table stop w₀ w i) where
+  pub compared_end : length ms ≤ i → shared_from [] (all_prepared index contents w₀ ms) ≡ []
   unfolding shared_from
-  compared_end h = x.left ∙ ap (shared_from (prepared_from index contents w₀ set 0 i)) (prepared_end index contents w₀ set i count h)
+  compared_end h = x.left ∙ at_drop_all (λ l. shared_from (all_prepared index contents w₀ (take i ms)) (all_prepared index contents w₀ l)) ms i h
 
   -- as the work buffer was before the table was made
   pub entry_found : (w₁ : List ℕ) → take table w₀ ≡ take table w₁ → (r : Option (Place × Place))
-      → SharedOf (shared_from [] (prepared_from index contents w₀ set 0 count)) r → SharedOf (shared_from [] (prepared_from index contents w₁ set 0 count)) r
-  entry_found w₁ e r f = rw (prepared_up contents w₀ w₁ 0 count (omega arith) all e) at f
+      → SharedOf (shared_from [] (all_prepared index contents w₀ ms)) r → SharedOf (shared_from [] (all_prepared index contents w₁ ms)) r
+  entry_found w₁ e r f = rw (prepared_up contents w₀ w₁ all e) at f
 
-  module _ (h : i < count) where
-    pub turn_tells : Tells (part table stop w) (prepared_from index contents w set 0 i)
-    turn_tells = rw (prepared_up contents w w₀ 0 i (omega arith) all x.same) x.tells
+  before_is : all_prepared index contents w (take i ms) ≡ all_prepared index contents w₀ (take i ms)
+  before_is = prepared_up contents w w₀ (stand_take i all) x.same
 
-    member_is : prepared_in index contents w (member_at set i) ≡ prepared_in index contents w₀ (member_at set i)
-    member_is = let s = all.stand i h in
-        prepared_same index contents w w₀ (member_at set i) s (source_up (member_at set i).source 0 (length contents) table contents w w₀ s.lies.inside x.same)
+  pub turn_tells : Tells (part table stop w) (all_prepared index contents w (take i ms))
+  turn_tells = rw before_is x.tells
 
-    found-is : shared_in (prepared_from index contents w set 0 i) (prepared_in index contents w (member_at set i)) 1 (prepared_in index contents w (member_at set i)).lines
-        ≡ shared_in (prepared_from index contents w₀ set 0 i) (prepared_in index contents w₀ (member_at set i)) 1 (prepared_in index contents w₀ (member_at set i)).lines
+  module _ (h : i < length ms) (d : Member) where
+    abbrev member : Member
+    member = get_or ms i d
+
+    -- what is compared with what, as the work buffer is and as it was
+    abbrev qs : List ℕ → List Prepared
+    qs v = all_prepared index contents v (take i ms)
+
+    abbrev mine : List ℕ → Prepared
+    mine v = prepared_in index contents v member
+
+    member_is : mine w ≡ mine w₀
+    member_is = let s = all.stand i d h in prepared_same index contents w w₀ member s (source_up member.source 0 (length contents) table contents w w₀ s.lies.inside x.same)
+
+    found-is : shared_in (qs w) (mine w) 1 (mine w).lines ≡ shared_in (qs w₀) (mine w₀) 1 (mine w₀).lines
     found-is =
-        ap (λ (qs : List Prepared). shared_in qs (prepared_in index contents w (member_at set i)) 1 (prepared_in index contents w (member_at set i)).lines)
-        (prepared_up contents w w₀ 0 i (omega arith) all x.same)
-        ∙ ap (λ (m : Prepared). shared_in (prepared_from index contents w₀ set 0 i) m 1 m.lines) member_is
+        ap (λ (ps : List Prepared). shared_in ps (mine w) 1 (mine w).lines) before_is
+        ∙ ap (λ (m : Prepared). shared_in (qs w₀) m 1 m.lines) member_is
 
-    left_at : shared_from [] (prepared_from index contents w₀ set 0 count)
-        ≡ shared_from (prepared_from index contents w₀ set 0 i) (prepared_in index contents w₀ (member_at set i) ∷ prepared_from index contents w₀ set (i + 1) (count - (i + 1)))
-    left_at = x.left ∙ ap (shared_from (prepared_from index contents w₀ set 0 i)) (prepared_at index contents w₀ set i count h)
+    left_at : shared_from [] (all_prepared index contents w₀ ms) ≡ shared_from (qs w₀) (mine w₀ ∷ all_prepared index contents w₀ (drop (i + 1) ms))
+    left_at = x.left ∙ at_drop_more (λ l. shared_from (qs w₀) (all_prepared index contents w₀ l)) ms i d h
 
-    more : prepared_from index contents w₀ set 0 (i + 1) ≡ prepared_from index contents w₀ set 0 i ++ (prepared_in index contents w₀ (member_at set i) ∷ [])
-    more = rw zero-add at (prepared_more index contents w₀ set 0 i)
-
-    pub turn_next : (u : List ℕ) → length u ≡ length w → take table u ≡ take table w
-        → shared_in (prepared_from index contents w set 0 i) (prepared_in index contents w (member_at set i)) 1 (prepared_in index contents w (member_at set i)).lines ≡ []
-        → Tells (part table stop u) (prepared_from index contents w set 0 (i + 1)) → Compared index contents set count table stop w₀ u (i + 1)
+    pub turn_next : (u : List ℕ) → length u ≡ length w → take table u ≡ take table w → shared_in (qs w) (mine w) 1 (mine w).lines ≡ []
+        → Tells (part table stop u) (all_prepared index contents w (take i ms ++ (member ∷ []))) → Compared index contents ms table stop w₀ u (i + 1)
     turn_next u l e n t = record {
-      few = omega arith;
       long = l ∙ x.long;
       same = e ∙ x.same;
-      tells = rw (prepared_up contents w w₀ 0 (i + 1) (omega arith) all x.same) at t;
+      tells = rw (take_more ms i d h) (rw (prepared_up contents w w₀ (turn_stand all h d) x.same) at t);
       left =
           left_at
-          ∙ from-none
-          (prepared_from index contents w₀ set 0 i)
-          (prepared_in index contents w₀ (member_at set i))
-          (prepared_from index contents w₀ set (i + 1) (count - (i + 1)))
-          (sym found-is ∙ n)
-          ∙ ap (λ (qs : List Prepared). shared_from qs (prepared_from index contents w₀ set (i + 1) (count - (i + 1)))) (sym more);
+          ∙ from-none (qs w₀) (mine w₀) (all_prepared index contents w₀ (drop (i + 1) ms)) (sym found-is ∙ n)
+          ∙ ap (λ (ps : List Prepared). shared_from ps (all_prepared index contents w₀ (drop (i + 1) ms))) (sym (map_more (prepared_in index contents w₀) ms i d h));
     }
 
-    pub turn_found : {r : Place × Place}
-        → SharedOf (shared_in (prepared_from index contents w set 0 i) (prepared_in index contents w (member_at set i)) 1 (prepared_in index contents w (member_at set i)).lines) (Some r)
-        → SharedOf (shared_from [] (prepared_from index contents w₀ set 0 count)) (Some r)
+    pub turn_found : {r : Place × Place} → SharedOf (shared_in (qs w) (mine w) 1 (mine w).lines) (Some r) → SharedOf (shared_from [] (all_prepared index contents w₀ ms)) (Some r)
     turn_found {r} f = (
-      f.0 ++ shared_from (prepared_from index contents w₀ set 0 i ++ (prepared_in index contents w₀ (member_at set i) ∷ [])) (prepared_from index contents w₀ set (i + 1) (count - (i + 1))),
-      left_at
-          ∙ from_some
-          (prepared_from index contents w₀ set 0 i)
-          (prepared_in index contents w₀ (member_at set i))
-          (prepared_from index contents w₀ set (i + 1) (count - (i + 1)))
-          (SharedAnchor r.0 r.1)
-          f.0
-          (sym found-is ∙ f.1),
+      f.0 ++ shared_from (qs w₀ ++ (mine w₀ ∷ [])) (all_prepared index contents w₀ (drop (i + 1) ms)),
+      left_at ∙ from_some (qs w₀) (mine w₀) (all_prepared index contents w₀ (drop (i + 1) ms)) (SharedAnchor r.0 r.1) f.0 (sym found-is ∙ f.1),
     )

@@ -1,6 +1,7 @@
 -- Laws of what the table of marks tells of earlier members. Assumes nothing.
-use Rattle.std.specs.Prelude.{None}
-use Prim.Native.Nat.{ℕ, zero, suc, ◌+◌, ◌≤◌, ◌<◌}
+use Rattle.std.specs.Prelude.{None, All}
+use Rattle.std.proofs.lemmas.List.Elements.{All-head, All-tail}
+use Prim.Native.Nat.{ℕ, ◌≤◌}
 use native.Mathlib.Omega.{arith}
 use mathlib.Core.Path.{◌≡◌, refl, ◌∙◌}
 use mathlib.Core.Bool.{Bool, true, false}
@@ -13,7 +14,6 @@ use Rattle.heading.specs.declared.walk.LineKind.{LineKind}
 use Rattle.heading.specs.declared.walk.LineKind.TheVariants.{Quoted, Heading, Other}
 use Rattle.shift.specs.Shift.{Told}
 use Rattle.member.specs.Member.{Prepared}
-use Rattle.members.specs.Members.{member_at, name_of, prepared_in, prepared_from, AllStand}
 use Rattle.earlier.specs.Earlier.{earlier}
 use Rattle.marks.specs.Marks.{Marked, Marks}
 use Rattle.shared.specs.Tells.{TellsKind, TellsLines, Tells}
@@ -40,40 +40,34 @@ unfolding Tells
 tells_more t [] m h l = (l, tt)
 tells_more t (q ∷ qs) m h l = (h.0, tells_more t qs m h.1 l)
 
-module _ {index set : List ℕ} {n limit stop count : ℕ} (all : AllStand index n limit stop set count) (contents work : List ℕ) where
-  pub tells_still : {t u : List ℕ} {number file : ℕ} {maybe : Bool} → Marks t u number file maybe → (q k : ℕ) → q + k ≤ count
-      → Tells t (prepared_from index contents work set q k) → Tells u (prepared_from index contents work set q k)
-  unfolding Tells prepared_from
-  tells_still m q zero h e = tt
-  tells_still m q (suc k) h e = (
-    lines-still m (member_at set q).file (all.stand q (omega arith)).lies.first (prepared_in index contents work (member_at set q)).lines e.0,
-    tells_still m (q + 1) k (omega arith) e.1,
-  )
+pub tells_still : {t u : List ℕ} {number file : ℕ} {maybe : Bool} → Marks t u number file maybe → (qs : List Prepared) → All (λ q. 1 ≤ q.file) qs → Tells t qs → Tells u qs
+unfolding Tells
+tells_still m [] a h = tt
+tells_still m (q ∷ qs) a h = (
+  lines-still m q.file (All-head (λ p. 1 ≤ p.file) q qs a) q.lines h.0,
+  tells_still m qs (All-tail (λ p. 1 ≤ p.file) q qs a) h.1,
+)
 
-  -- where the table tells of member i's file only, no earlier member of another name has the anchor
-  module _ (t a : List ℕ) (i : ℕ) (here : i < count) (alone : (f : ℕ) → 1 ≤ f → f ≤ 64 → Marked t (anchor_number a) f → f ≡ (member_at set i).file) where
-    other : (q : ℕ) → q < count → equals (name_of index (member_at set i)) (name_of index (member_at set q)) ≡ false → Marked t (anchor_number a) (member_at set q).file → ⊥
-    other q h e m =
-        let s = (all.stand q h).lies in
-        let f : (member_at set q).file ≡ (member_at set i).file = alone (member_at set q).file s.first s.last m in
-        let x : name_of index (member_at set q) ≡ name_of index (member_at set i) = all.same q i h here f in
-        let y : equals (name_of index (member_at set i)) (name_of index (member_at set q)) ≡ true = rw x (equals_self (name_of index (member_at set i))) in
-        let z : ◌≡◌ {A = ℕ} 0 1 = cc in
-        omega arith
+-- a member with a number for which there is room in the table, and with one name where it has the number of another
+pub record Numbered (file : ℕ) (name : List ℕ) (q : Prepared) : Type 0 where
+  pub first : 1 ≤ q.file
+  pub last : q.file ≤ 64
+  pub same : q.file ≡ file → q.name ≡ name
 
-    pub earlier-none : (q k : ℕ) → q + k ≤ count → Tells t (prepared_from index contents work set q k)
-        → earlier (name_of index (member_at set i)) a (prepared_from index contents work set q k) ≡ None
-    unfolding Tells prepared_from earlier
-    earlier-none q zero h e = refl
-    earlier-none q (suc k) h e =
-        go (earlier-none (q + 1) k (omega arith) e.1) (equals (name_of index (member_at set i)) (name_of index (member_at set q))) refl
-      where
-        go : earlier (name_of index (member_at set i)) a (prepared_from index contents work set (q + 1) k) ≡ None
-            → (b : Bool) → equals (name_of index (member_at set i)) (name_of index (member_at set q)) ≡ b
-            → earlier (name_of index (member_at set i)) a (prepared_in index contents work (member_at set q) ∷ prepared_from index contents work set (q + 1) k) ≡ None
-        go r true x =
-            earlier-own (name_of index (member_at set i)) a (prepared_in index contents work (member_at set q)) (prepared_from index contents work set (q + 1) k) x ∙ r
-        go r false x =
-            earlier_without (name_of index (member_at set i)) a (prepared_in index contents work (member_at set q)) (prepared_from index contents work set (q + 1) k) x
-            (lines_none t a (member_at set q).file 1 (prepared_in index contents work (member_at set q)).lines (other q (omega arith) x) e.0)
-            ∙ r
+-- where the table tells of one file only, no earlier member of another name has the anchor
+module _ {t name : List ℕ} {file : ℕ} (a : List ℕ) (alone : (f : ℕ) → 1 ≤ f → f ≤ 64 → Marked t (anchor_number a) f → f ≡ file) where
+  other : (q : Prepared) → Numbered file name q → equals name q.name ≡ false → Marked t (anchor_number a) q.file → ⊥
+  other q n e m =
+      let x : q.name ≡ name = n.same (alone q.file n.first n.last m) in
+      let y : equals name q.name ≡ true = rw x (equals_self name) in
+      let z : ◌≡◌ {A = ℕ} 0 1 = cc in
+      omega arith
+
+  pub earlier-none : (qs : List Prepared) → All (Numbered file name) qs → Tells t qs → earlier name a qs ≡ None
+  unfolding Tells earlier
+  earlier-none [] n h = refl
+  earlier-none (q ∷ qs) n h = go (earlier-none qs (All-tail (Numbered file name) q qs n) h.1) (equals name q.name) refl
+    where
+      go : earlier name a qs ≡ None → (b : Bool) → equals name q.name ≡ b → earlier name a (q ∷ qs) ≡ None
+      go r true x = earlier-own name a q qs x ∙ r
+      go r false x = earlier_without name a q qs x (lines_none t a q.file 1 q.lines (other q (All-head (Numbered file name) q qs n) x) h.0) ∙ r

@@ -1,6 +1,5 @@
 -- Laws of `specs/Levels.antt`: levels found line by line, the first line that goes past, and the shift. Assumes nothing.
 use Rattle.std.specs.Prelude.{Option, Some, None, Ok, Err}
-use Rattle.std.specs.Option.{is_some}
 use Prim.Native.Nat.{ℕ, zero, suc, ◌+◌, ◌≤◌}
 use native.Mathlib.Omega.{arith}
 use mathlib.Core.Path.{◌≡◌, refl, sym, subst, ap, ◌∙◌}
@@ -8,7 +7,6 @@ use mathlib.Core.Bool.{Bool, true, false, false≢true}
 use mathlib.Core.List.{List, [], ◌∷◌}
 use lib.ListN.{length}
 use lib.IntN.{ℤ, pos, ◌+ℤ◌}
-use lib.Signed.{mag}
 use Rattle.std.specs.List.{All}
 use Rattle.std.proofs.lemmas.List.Elements.{All-nil, All-cons}
 use Rattle.text.specs.Lines.{pieces}
@@ -22,10 +20,11 @@ use Rattle.heading.proofs.WalkLaws.{kind-within}
 use Rattle.heading.proofs.LevelLaws.{level-lines}
 use Rattle.heading.proofs.PastLaws.{deepest-past, none-past, shift_level}
 use Rattle.shift.specs.Shift.{shift_for}
-use Rattle.shift.specs.Levels.{HasLevel, kinds_in, AreLevels, ShiftTo}
+use Rattle.shift.specs.declared.level.Levels.{Levels}
+use Rattle.shift.specs.Levels.{HasLevel, kinds_in, top_in, deepest_in, AreLevels, ShiftOf}
 
 -- a line's heading has a level of 1 to 6
-pub step-level : (f : Fence) (c : Bool) (l : List ℕ) → HasLevel (step_kind f c l)
+pub step-level : (f : Option Fence) (c : Bool) (l : List ℕ) → HasLevel (step_kind f c l)
 step-level f c l = go (step_kind f c l) (kind-within f c l)
   where
     go : (k : LineKind) → ((n a e : ℕ) → k ≡ Heading n a e → ((1 ≤ n) × (n ≤ 6)) × ((a ≤ e) × (e ≤ length l))) → HasLevel k
@@ -62,11 +61,11 @@ pub found_turn : {ks rest more : List LineKind} {k : LineKind} {t u : Option ℕ
 unfolding shallowest_of deepest_of
 found_turn f p q r = record { shallow = rw q (rw p at f.shallow); deep = rw r (rw p at f.deep) }
 
-pub found_all : (s : List ℕ) {rest : List LineKind} {t : Option ℕ} {d : ℕ} → Found (kinds_in s) rest t d → rest ≡ [] → AreLevels (kinds_in s) t d
+pub found_all : (s : List ℕ) {rest : List LineKind} {f : Option Levels} → Found (kinds_in s) rest (top_in f) (deepest_in f) → rest ≡ [] → AreLevels (kinds_in s) f
 unfolding shallowest_of deepest_of
-found_all s f e =
-    let top = rw e at f.shallow in
-    let deepest = rw e at f.deep in
+found_all s h e =
+    let top = rw e at h.shallow in
+    let deepest = rw e at h.deep in
     record {
       shallow = top;
       deep = deepest;
@@ -97,32 +96,31 @@ pub ahead_end : {z : ℤ} {ks rest : List LineKind} {n : ℕ} {p : Type 0} → A
 unfolding any_past
 ahead_end h e = absurd (false≢true (rw e at h.some))
 
--- x is the shift to a target
-module _ (s : List ℕ) (target : ℕ) {top : Option ℕ} {d : ℕ} (a : AreLevels (kinds_in s) top d) (x : ℤ) (r : x ≡ shift_of target top) where
-  shift_is : x ≡ shift_for target (kinds_in s)
-  shift_is = r ∙ ap (shift_of target) a.shallow
+module _ (target : ℕ) {ks : List LineKind} where
+  -- with no heading none goes past
+  pub shift_none : AreLevels ks None → ShiftOf target ks (Ok (pos 0))
+  shift_none a =
+      let z : shift_for target ks ≡ pos 0 = ap (shift_of target) (sym a.shallow) in
+      (sym z, rw z (none-past (pos 0) ks (sym a.shallow)))
 
-  -- a heading goes past where the deepest does
-  pub shift_past : {b : Bool} → 1 ≤ target → is_some top ≡ true → b ≡ is_past (moved_to (pos d +ℤ x)) → any_past x (kinds_in s) ≡ b
-  shift_past h w p = go target top h w refl r ∙ sym p
-    where
-      go : (t : ℕ) (o : Option ℕ) → 1 ≤ t → is_some o ≡ true → top ≡ o → x ≡ shift_of t o → any_past x (kinds_in s) ≡ is_past (moved_to (pos d +ℤ x))
-      go zero o k w q e = absurd (omega arith)
-      go (suc m) None k w q e = absurd (false≢true w)
-      go (suc m) (Some n) k w q e = rw (a.deep, e) (deepest-past n m (shift_of (suc m) (Some n)) (shift_level (suc m) n) (kinds_in s) (sym a.shallow ∙ q))
+  -- x is the shift to the target
+  module _ {l : Levels} (a : AreLevels ks (Some l)) (x : ℤ) (r : x ≡ shift_of target (Some l.shallowest)) where
+    shift_is : x ≡ shift_for target ks
+    shift_is = r ∙ ap (shift_of target) a.shallow
 
-  -- with no heading none does
-  pub shift_none : is_some top ≡ false → any_past x (kinds_in s) ≡ false
-  shift_none w = go top w refl
-    where
-      go : (o : Option ℕ) → is_some o ≡ false → top ≡ o → any_past x (kinds_in s) ≡ false
-      go None w q = none-past x (kinds_in s) (sym a.shallow ∙ q)
-      go (Some n) w q = absurd (false≢true (sym w))
+    -- a heading goes past where the deepest does
+    pub shift_past : {b : Bool} → 1 ≤ target → b ≡ is_past (moved_to (pos l.deepest +ℤ x)) → any_past x ks ≡ b
+    shift_past h p = go target h r ∙ sym p
+      where
+        go : (t : ℕ) → 1 ≤ t → x ≡ shift_of t (Some l.shallowest) → any_past x ks ≡ is_past (moved_to (pos l.deepest +ℤ x))
+        go zero k e = absurd (omega arith)
+        go (suc m) k e =
+            let d : l.deepest ≡ deepest_of 0 ks = a.deep in
+            rw (d, e) (deepest-past l.shallowest m (shift_of (suc m) (Some l.shallowest)) (shift_level (suc m) l.shallowest) ks (sym a.shallow))
 
-  -- the answers
-  pub shift_by : mag x ≤ 7 → any_past x (kinds_in s) ≡ false → ShiftTo s target (Ok x)
-  shift_by m p = (shift_is, (m, ap (λ (z : ℤ). any_past z (kinds_in s)) (sym shift_is) ∙ p))
+    -- the answers
+    pub shift_by : any_past x ks ≡ false → ShiftOf target ks (Ok x)
+    shift_by p = (shift_is, ap (λ (z : ℤ). any_past z ks) (sym shift_is) ∙ p)
 
-  pub shift_past_at : {n : ℕ} → any_past x (kinds_in s) ≡ true → n ≡ 1 + first_past x (kinds_in s) → ShiftTo s target (Err n)
-  shift_past_at p q =
-      (ap (λ (z : ℤ). any_past z (kinds_in s)) (sym shift_is) ∙ p, q ∙ ap (λ (z : ℤ). 1 + first_past z (kinds_in s)) shift_is)
+    pub shift_past_at : {n : ℕ} → any_past x ks ≡ true → n ≡ 1 + first_past x ks → ShiftOf target ks (Err n)
+    shift_past_at p q = (ap (λ (z : ℤ). any_past z ks) (sym shift_is) ∙ p, q ∙ ap (λ (z : ℤ). 1 + first_past z ks) shift_is)

@@ -35,7 +35,7 @@ told-take (suc n) st (l ∷ ls) = ap (λ (k : List Told). record { kind = step_k
 
 -- what is gathered from kinds line by line, where a line that is no heading changes nothing: blank lines at the ends do not change it
 module _ {C : Type 0} (step : C → LineKind → C) (F : C → List LineKind → C) (on : (b : C) (k : LineKind) (ks : List LineKind) → F b (k ∷ ks) ≡ F (step b k) ks)
-    (stay : (f : Fence) (b : C) → step b (still_kind f) ≡ b) where
+    (stay : (f : Option Fence) (b : C) → step b (still_kind f) ≡ b) where
   -- blank lines at the start
   pub gather_start : (b : C) (st : WalkState) (ls : List (List ℕ)) → F b (kinds_from st (drop_start ls)) ≡ F b (kinds_from st ls)
   unfolding blanks

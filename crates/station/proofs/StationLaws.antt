@@ -12,6 +12,7 @@ use Rattle.text.specs.Lines.{LF}
 use Rattle.buffer.specs.Decimal.{decimal}
 use Rattle.buffer.proofs.BufferLaws.{sets_append}
 use Rattle.marker.specs.Marker.{kind_of}
+use Rattle.marker.specs.declared.line.Fragment.{Fragment}
 use Rattle.marker.specs.declared.line.Kind.TheVariants.{Opens}
 use Rattle.regions.proofs.PlaceLaws.{InKind, kind-path}
 use Rattle.station.specs.Station.{TAB, record_line, nth_line, shown_byte, shown_up_to}
@@ -41,9 +42,9 @@ line-past (suc (suc k)) h e q = rw e at h
 pub piece_more : (last : Bool) (e n : ℕ) → last ≡ eqb e n → last ≡ false → e ≤ n → e + 1 ≤ n
 piece_more last e n p q h = let z = eqb-false e n (sym p ∙ q) in omega arith
 
-pub named-opens : (l : List ℕ) (a e : ℕ) (peer : Bool) → kind_of false false 0 l ≡ Opens a e peer → (a ≤ e) × (e ≤ length l)
-named-opens l a e peer q =
-    let w : InKind 14 (length l) (Opens a e peer) = subst (InKind 14 (length l)) q (kind-path false false 0 l (length l) (omega arith)) in
+pub named-opens : (l : List ℕ) (p : Fragment) → kind_of false false 0 l ≡ Opens p → (p.path.start ≤ p.path.end) × (p.path.end ≤ length l)
+named-opens l p q =
+    let w : InKind 14 (length l) (Opens p) = subst (InKind 14 (length l)) q (kind-path false false 0 l (length l) (omega arith)) in
     omega arith
 
 behind : (l a b : List ℕ) (i j : ℕ) {m : List ℕ} → m ≡ sets l i a → j ≡ i + length a → sets m j b ≡ sets l i (a ++ b)

@@ -32,7 +32,7 @@ named_as l Plain = l
 named_as l Fence = l
 named_as l (Fault k) = l
 named_as l Closes = l
-named_as l (Opens a e peer) = part a e l
+named_as l (Opens p) = part p.path.start p.path.end l
 named_as l (Spans i) = l
 
 abbrev pub named_on : List ℕ → List ℕ

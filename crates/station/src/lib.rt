@@ -4,8 +4,11 @@
 ghost use Rattle.std.specs.Prelude.{◌≡◌, ◌≤◌};
 ghost use Rattle.station.specs.Station.{largest_limit};
 
+pub mod argument;
 pub mod failed;
+pub mod input;
 pub mod line;
+pub mod note;
 pub mod record;
 pub mod shown;
 

@@ -1,10 +1,12 @@
 // Stored cases of a call with a walk, replayed: index, contents and two more texts, the limits, and the sizes of output and work.
-use crate::{header, print};
+ghost use Rattle.std.specs.Prelude.{OnOk};
+ghost use Rattle.std.specs.Io.KnownBytes.{Appends};
+ghost use Rattle.stored.specs.Row.{answer_text};
+
+use crate::header;
+use crate::print::Row;
 use std::io;
 use std::io::{Read, Write};
-
-// The loop over the cases has to end, and nothing says that the input does.
-const MOST_CASES: usize = 100_000;
 
 // What a call is handed, but for its output and work buffer.
 #[derive(Clone, Copy)]
@@ -25,30 +27,30 @@ struct Sizes {
     third: usize,
     fourth: usize,
     limit: usize,
-    allowance: usize,
+    allowance: u32,
     out: usize,
     work: usize,
 }
 
-// The numbers of four headers, if they are well formed.
-fn sizes_of(bytes: &[u8; 56]) -> Option<Sizes> {
-    let (index, contents) = header::parse(&bytes[..14])?;
-    let (third, fourth) = header::parse(&bytes[14..28])?;
-    let (limit, allowance) = header::parse(&bytes[28..42])?;
-    let (out, work) = header::parse(&bytes[42..])?;
+// The numbers of four headers; None where one is ill formed.
+fn sizes_of(headers: &[u8]) -> Option<Sizes> {
+    let (index, contents) = header::parse(headers.get(..14)?)?;
+    let (third, fourth) = header::parse(headers.get(14..28)?)?;
+    let (limit, allowance) = header::parse(headers.get(28..42)?)?;
+    let (out, work) = header::parse(headers.get(42..56)?)?;
     Some(Sizes {
         index,
         contents,
         third,
         fourth,
         limit,
-        allowance,
+        allowance: u32::try_from(allowance).ok()?,
         out,
         work,
     })
 }
 
-// The case whose texts stand one behind the other, where all of it fits.
+// The case whose texts stand one behind the other; None where they do not fit.
 fn case_of(given: &[u8], sizes: Sizes) -> Option<Case<'_>> {
     let (index, rest) = given.split_at_checked(sizes.index)?;
     let (contents, rest) = rest.split_at_checked(sizes.contents)?;
@@ -60,23 +62,28 @@ fn case_of(given: &[u8], sizes: Sizes) -> Option<Case<'_>> {
         third,
         fourth,
         limit: sizes.limit,
-        allowance: u32::try_from(sizes.allowance).ok()?,
+        allowance: sizes.allowance,
     })
 }
 
-// Prints the six numbers of an answer, and its text and LF where there is one.
-fn print_answer(to: &mut impl Write, numbers: [u64; 6], out: &[u8]) -> io::Result<()> {
-    print::numbers(to, numbers)?;
-    if numbers[0] == 0 {
-        if let Some(text) = out.get(..numbers[1] as usize) {
-            to.write_all(text)?;
-            to.write_all(b"\n")?;
-        }
-    }
-    Ok(())
+// Prints the six numbers of an answer, and its text and LF where there is one. No Display: the text is bytes.
+#[tactic(auto, unfolding(crate::specs::Row::answer_text))]
+fn print_answer<W: Write>(to: &mut W, numbers: [u64; 6], out: &[u8]) -> io::Result<()>
+    ensures { OnOk result (Appends (W.contents to.old) (W.contents to.new) (answer_text numbers out.now)) }
+{
+    writeln!(to, "{}", Row(numbers))?;
+    let [0, length, ..] = numbers else {
+        return Ok(());
+    };
+    let Some(text) = out.get(..length as usize) else {
+        return Ok(());
+    };
+    to.write_all(text)?;
+    to.write_all(b"\n")
 }
 
-// Reads the texts of a case, makes its call in buffers of zeros, and prints the answer. Answers whether the case was well formed and all there.
+// Reads the texts of a case, makes its call in buffers of zeros, and prints the answer. Answers whether its sizes are none past the
+// buffers', which is judged before anything is read, and its texts are all there.
 fn replay_texts<F: Fn(Case<'_>, &mut [u8], &mut [u8]) -> [u64; 6]>(
     from: &mut impl Read,
     to: &mut impl Write,
@@ -88,21 +95,22 @@ fn replay_texts<F: Fn(Case<'_>, &mut [u8], &mut [u8]) -> [u64; 6]>(
     let mut given = [0u8; 16384];
     let mut out = [0u8; 65536];
     let mut work = [0u8; 65536];
-    let (Some(out), Some(work)) = (out.get_mut(..sizes.out), work.get_mut(..sizes.work)) else {
-        return Ok(false);
-    };
     let end = sizes
         .index
         .saturating_add(sizes.contents)
         .saturating_add(sizes.third)
         .saturating_add(sizes.fourth);
-    let Some(filled) = given.get_mut(..end) else {
+    let (Some(given), Some(out), Some(work)) = (
+        given.get_mut(..end),
+        out.get_mut(..sizes.out),
+        work.get_mut(..sizes.work),
+    ) else {
         return Ok(false);
     };
-    if !crate::is_filled(from, filled)? {
+    if !crate::is_filled(from, given)? {
         return Ok(false);
     }
-    let Some(case) = case_of(&given, sizes) else {
+    let Some(case) = case_of(given, sizes) else {
         return Ok(false);
     };
     let numbers = call(case, out, work);
@@ -110,40 +118,25 @@ fn replay_texts<F: Fn(Case<'_>, &mut [u8], &mut [u8]) -> [u64; 6]>(
     Ok(true)
 }
 
-// Replays a case. Answers whether to go on: not at the input's end or after an ill-formed case, which is printed.
-fn replay_next<F: Fn(Case<'_>, &mut [u8], &mut [u8]) -> [u64; 6]>(
-    from: &mut impl Read,
-    to: &mut impl Write,
-    call: &F,
-) -> io::Result<bool>
-    requires { F.IsAlwaysCallable call.now }
-{
-    let mut bytes = [0u8; 56];
-    if !crate::is_filled(from, &mut bytes)? {
-        return Ok(false);
-    }
-    let replayed = match sizes_of(&bytes) {
-        Some(sizes) => replay_texts(from, to, sizes, call)?,
-        None => false,
-    };
-    if !replayed {
-        crate::print_ill_formed(to)?;
-    }
-    Ok(replayed)
-}
-
 // Replays the stored cases of an input by a call, and prints the answer of each.
-pub fn replay<F: Fn(Case<'_>, &mut [u8], &mut [u8]) -> [u64; 6]>(
-    from: &mut impl Read,
-    to: &mut impl Write,
+pub fn replay<R: Read, W: Write, F: Fn(Case<'_>, &mut [u8], &mut [u8]) -> [u64; 6]>(
+    from: &mut R,
+    to: &mut W,
     call: F,
 ) -> io::Result<()>
     requires { F.IsAlwaysCallable call }
 {
-    for _ in 0..MOST_CASES {
-        if !replay_next(from, to, &call)? {
-            break;
-        }
-    }
-    Ok(())
+    crate::replay(
+        from,
+        to,
+        &mut [0u8; 56],
+        |headers: &[u8], from: &mut R, to: &mut W|
+            requires { F.IsAlwaysCallable call }
+        {
+            match sizes_of(headers) {
+                Some(sizes) => replay_texts(from, to, sizes, &call),
+                None => Ok(false),
+            }
+        },
+    )
 }

@@ -4,6 +4,7 @@ ghost use Rattle.stored.specs.Header.{header_of};
 
 use buffer::decimal;
 
+// The two numbers of a header; None where it is ill formed.
 #[tactic(auto, unfolding(crate::specs::Header::header_of))]
 pub fn parse(s: &[u8]) -> Option<(usize, usize)>
     requires { length s.now ≡ 14 }

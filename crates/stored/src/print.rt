@@ -1,17 +1,20 @@
-// Numbers, tabs between them.
-use std::io;
-use std::io::Write;
+// The six numbers of an answer.
+use std::fmt;
+use std::fmt::Display;
 
-pub fn tabbed(to: &mut impl Write, number: u64) -> io::Result<()> {
-    write!(to, "\t{number}")
-}
+// A row of them, tabs between.
+#[derive(Clone, Copy)]
+pub struct Row(pub [u64; 6]);
 
-// A row of six numbers.
-pub fn numbers(to: &mut impl Write, numbers: [u64; 6]) -> io::Result<()> {
-    let [first, ..] = numbers;
-    write!(to, "{first}")?;
-    for number in &numbers[1..] {
-        tabbed(to, *number)?;
+impl Display for Row {
+    ghost use Rattle.std.specs.Prelude.{Some};
+    ghost use Rattle.stored.specs.Row.{row_text};
+
+    ghost output = { λ r. Some (row_text r.0) };
+
+    #[tactic(auto, unfolding(crate::specs::Row::row_text))]
+    fn fmt<W: fmt::Write>(&self, f: &mut fmt::Formatter<W>) -> fmt::Result {
+        let [a, b, c, d, e, g] = self.0;
+        write!(f, "{a}\t{b}\t{c}\t{d}\t{e}\t{g}")
     }
-    to.write_all(b"\n")
 }

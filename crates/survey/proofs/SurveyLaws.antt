@@ -1,30 +1,28 @@
 -- Laws of `specs/Surveys.antt`: what a survey gathers is what `scanned` says; a turn of the survey; the text's end. Assumes nothing.
 use Rattle.std.specs.Prelude.{Option, Some, None, Result, Ok, Err, is_some}
-use Prim.Native.Nat.{ℕ, zero, suc, ◌+◌, ◌-◌, ◌<◌}
+use Prim.Native.Nat.{ℕ, zero, suc, ◌+◌, ◌-◌}
 use native.Mathlib.Omega.{arith}
 use mathlib.Core.Path.{◌≡◌, refl, sym, ap, ◌∙◌, subst}
 use mathlib.Core.Bool.{Bool, true, false, cond, ◌&&◌, ◌||◌, false≢true, or-true, or-false}
 use mathlib.Core.List.{List, [], ◌∷◌, ◌++◌, map}
 use lib.ListN.{length, take, drop}
 use lib.Dec.{eqb}
-use borrow.Author.Tests.{ne_eqb}
 use Rattle.marker.specs.declared.line.Fragment.{Fragment}
 use Rattle.answer.specs.Answer.{place}
 use Rattle.answer.specs.declared.Place.{Place}
 use Rattle.answer.specs.declared.Refusal.{Refusal}
-use Rattle.answer.specs.declared.Refusal.TheVariants.{NestedRegion, FragmentMarker, UnclosedRegion}
 use Rattle.text.specs.Bytes.{part}
 use Rattle.text.specs.Pattern.{starts_with, bytes, find, contains, equals}
 use Rattle.text.specs.Space.{trim}
 use Rattle.text.specs.Lines.{lines_from}
 use Rattle.fence.specs.Fences.{is_fence}
 use Rattle.marker.specs.Marker.{OPEN, SPEC-END, CLOSE, OPEN-FRAGMENT, text_of, spec_of, mark_of, first_of, next_mark, fragment_of, fragment_kind, marked_kind, kind_of}
+use Rattle.marker.specs.declared.problem.Problem as problems
+use Rattle.marker.specs.declared.problem.Problem.TheVariants.{MarkerInFence, NestedRegion, FragmentMarker, StrayCloser, NestedMarker, EmptySpec}
 use Rattle.marker.specs.declared.line.Kind.{Kind}
 use Rattle.marker.specs.declared.line.Kind.TheVariants.{Plain, Fence, Fault, Closes, Opens, Spans}
 use Rattle.marker.specs.declared.span.Mark.{Mark}
 use Rattle.marker.specs.declared.span.Mark.TheVariants.{Marked, Problem, End}
-use Rattle.marker.specs.declared.span.Stop.{Stop}
-use Rattle.marker.specs.declared.span.Stop.TheVariants.{AtProblem, AtSpanEnd}
 use Rattle.marker.proofs.MarkerLaws.{kind-closes}
 use Rattle.scan.specs.Scan.{read_by, read_from, read_line, stop_events, span_events, closed_by, events_of, after, kind_at, last_of, scan_from, scan, regions_of}
 use Rattle.scan.specs.Skip.{Sought}
@@ -43,33 +41,36 @@ use Rattle.regions.specs.Hosts.{host_rest, start_cursor}
 use Rattle.survey.specs.declared.Surveyed.{Surveyed}
 use Rattle.survey.specs.declared.Surveyed.TheVariants.{NoRegion, Regions}
 
--- the problems of spans are none of 1 to 5
+-- a problem that refuses nothing, as those of spans
+abbrev Silent : problems.Problem → Type 0
+Silent k = (p : Place) → refusal_of k p ≡ []
+
 abbrev LateMark : Mark → Type 0
-LateMark (Marked a e c d) = Unit {0}
-LateMark (Problem k) = 5 < k
+LateMark (Marked a t) = Unit {0}
+LateMark (Problem k) = Silent k
 LateMark End = Unit {0}
 
 late_text : (o j : ℕ) (b : List ℕ) (f : Option ℕ) → LateMark (text_of o j b f)
 unfolding text_of
-late_text o j b None = omega arith
+late_text o j b None = λ p. refl
 late_text o j b (Some k) = go (contains OPEN (take k b)) (eqb j 0)
   where
-    go : (x y : Bool) → LateMark (cond x (Problem 9) (cond y (Problem 10) (Marked o (o + j) (o + j + 4) (o + j + 4 + k))))
-    go true y = omega arith
-    go false true = omega arith
+    go : (x y : Bool) → LateMark (cond x (Problem NestedMarker) (cond y (Problem EmptySpec) (Marked (record { start = o; end = o + j }) (record { start = o + j + 4; end = o + j + 4 + k }))))
+    go true y = λ p. refl
+    go false true = λ p. refl
     go false false = tt
 
 late_spec : (o : ℕ) (b : List ℕ) (f : Option ℕ) → LateMark (spec_of o b f)
 unfolding spec_of
-late_spec o b None = omega arith
+late_spec o b None = λ p. refl
 late_spec o b (Some j) = late_text o j (drop (j + 4) b) (find CLOSE (drop (j + 4) b))
 
 late_mark : (o : ℕ) (b : List ℕ) → LateMark (mark_of o b)
 unfolding mark_of
 late_mark o b = go (starts_with (bytes "/") b)
   where
-    go : (x : Bool) → LateMark (cond x (Problem 6) (spec_of o b (find SPEC-END b)))
-    go true = omega arith
+    go : (x : Bool) → LateMark (cond x (Problem StrayCloser) (spec_of o b (find SPEC-END b)))
+    go true = λ p. refl
     go false = late_spec o b (find SPEC-END b)
 
 late_next : (o : ℕ) (r : List ℕ) → LateMark (next_mark o r)
@@ -80,9 +81,9 @@ late_next o r = go (find OPEN r)
     go None = tt
     go (Some i) = late_mark (o + i + 5) (drop (i + 5) r)
 
-abbrev LateStop : Stop → Type 0
-LateStop (AtProblem k) = 5 < k
-LateStop AtSpanEnd = Unit {0}
+abbrev LateStop : Option problems.Problem → Type 0
+LateStop (Some k) = Silent k
+LateStop None = Unit {0}
 
 late_read : (f n o : ℕ) (r : List ℕ) → LateStop (read_from f n o r).stop
 unfolding read_from read_by
@@ -92,33 +93,37 @@ late_read (suc f) n o r = go (next_mark o r) (late_next o r) (λ p t. late_read 
     go : (m : Mark) → LateMark m → ((p : ℕ) (t : List ℕ) → LateStop (read_from f n p t).stop) → LateStop (read_by n o (λ p. read_from f n p (drop (p - o) r)) m).stop
     go End h ih = tt
     go (Problem k) h ih = h
-    go (Marked a e c d) h ih = ih (d + 10) (drop (d + 10 - o) r)
+    go (Marked a t) h ih = ih (t.end + 10) (drop (t.end + 10 - o) r)
 
--- nor is a line's problem 4 or a later one
+-- of a line's other problems `refusal_at` tells all refusals
+abbrev told : Option Refusal → List Refusal
+told (Some x) = x ∷ []
+told None = []
+
 abbrev LowKind : Kind → Type 0
 LowKind Plain = Unit {0}
 LowKind Fence = Unit {0}
-LowKind (Fault k) = k < 4
+LowKind (Fault k) = (p : Place) → refusal_of k p ≡ told (refusal_at p (Fault k))
 LowKind Closes = Unit {0}
-LowKind (Opens a e peer) = Unit {0}
+LowKind (Opens f) = Unit {0}
 LowKind (Spans i) = Unit {0}
 
 low_fragment : (inside : Bool) (i : ℕ) (l : List ℕ) (f : Option Fragment) → LowKind (fragment_kind inside i l f)
 unfolding fragment_kind
-low_fragment true i l (Some p) = omega arith
+low_fragment true i l (Some p) = λ q. refl
 low_fragment false i l (Some p) = tt
 low_fragment inside i l None = by (contains OPEN-FRAGMENT l)
   where
-    by : (x : Bool) → LowKind (cond x (Fault 3) (Spans i))
-    by true = omega arith
+    by : (x : Bool) → LowKind (cond x (Fault FragmentMarker) (Spans i))
+    by true = λ q. refl
     by false = tt
 
 low_kind : (fence inside : Bool) (o : ℕ) (l : List ℕ) → LowKind (kind_of fence inside o l)
 unfolding kind_of marked_kind
 low_kind fence inside o l = by (is_fence l) (find OPEN l)
   where
-    marked : (a b : Bool) (k : Kind) → LowKind k → LowKind (cond a (Fault 1) (cond b Closes k))
-    marked true b k h = omega arith
+    marked : (a b : Bool) (k : Kind) → LowKind k → LowKind (cond a (Fault MarkerInFence) (cond b Closes k))
+    marked true b k h = λ q. refl
     marked false true k h = tt
     marked false false k h = h
 
@@ -127,37 +132,21 @@ low_kind fence inside o l = by (is_fence l) (find OPEN l)
     by false (Some i) = marked fence (inside && equals CLOSE (trim l)) (fragment_kind inside i l (fragment_of o l)) (low_fragment inside i l (fragment_of o l))
     by false None = tt
 
--- a problem that is none of 2 to 4 is passed over
-passed_over : (any : Bool) (f n k : ℕ) (es : List Event) → (k ≡ 2 → ⊥) → (k ≡ 3 → ⊥) → (k ≡ 4 → ⊥) → survey_from any f (OfProblem n k ∷ es) ≡ survey_from any f es
-unfolding survey_from
-passed_over any f n k es x y z = rw (ne_eqb k 2 x, ne_eqb k 3 y, ne_eqb k 4 z)
-
--- so are spans
-spans_over : (any : Bool) (f n : ℕ) (xs : List Span) (t : Stop) (es : List Event) → LateStop t
+-- spans and what stops their reading are passed over
+spans_over : (any : Bool) (f n : ℕ) (xs : List Span) (t : Option problems.Problem) (es : List Event) → LateStop t
     → survey_from any f ((map OfSpan xs ++ stop_events n t) ++ es) ≡ survey_from any f es
 unfolding survey_from
-spans_over any f n [] (AtProblem k) es h = passed_over any f n k es (λ e. omega arith) (λ e. omega arith) (λ e. omega arith)
-spans_over any f n [] AtSpanEnd es h = refl
+spans_over any f n [] (Some k) es h = rw (h (place f n))
+spans_over any f n [] None es h = refl
 spans_over any f n (x ∷ xs) t es h = spans_over any f n xs t es h
 
 -- one line: a refusal, or what follows is surveyed
-fault_wrong : (p : Place) (k : ℕ) (x : Refusal) (r : Result Surveyed Refusal) → refusal_at p (Fault k) ≡ Some x → wrong_or (refusal_of k p) r ≡ Err x
-fault_wrong p k x r = go (eqb k 2) (eqb k 3) (eqb k 4)
-  where
-    go : (a b c : Bool) → cond a (Some (NestedRegion p)) (cond b (Some (FragmentMarker p)) None) ≡ Some x
-        → wrong_or (cond a (NestedRegion p ∷ []) (cond b (FragmentMarker p ∷ []) (cond c (UnclosedRegion p ∷ []) []))) r ≡ Err x
-    go true b c e = cc
-    go false true c e = cc
-    go false false c e = cc
+fault_wrong : (p : Place) (k : problems.Problem) (x : Refusal) (r : Result Surveyed Refusal) → refusal_at p (Fault k) ≡ Some x → wrong_or (refusal_of k p) r ≡ Err x
+fault_wrong p NestedRegion x r e = cc
+fault_wrong p k x r e = cc
 
-fault_over : (p : Place) (k : ℕ) (r : Result Surveyed Refusal) → k < 4 → refusal_at p (Fault k) ≡ None → wrong_or (refusal_of k p) r ≡ r
-fault_over p k r h e = rw (ne_eqb k 4 (λ z. omega arith)) (go (eqb k 2) (eqb k 3) e)
-  where
-    go : (a b : Bool) → cond a (Some (NestedRegion p)) (cond b (Some (FragmentMarker p)) None) ≡ None
-        → wrong_or (cond a (NestedRegion p ∷ []) (cond b (FragmentMarker p ∷ []) [])) r ≡ r
-    go true b e = cc
-    go false true e = cc
-    go false false e = refl
+fault_over : (p : Place) (k : problems.Problem) (r : Result Surveyed Refusal) → LowKind (Fault k) → refusal_at p (Fault k) ≡ None → wrong_or (refusal_of k p) r ≡ r
+fault_over p k r h e = rw (h p, e)
 
 line_wrong : (any : Bool) (f : ℕ) (st : State) (n o : ℕ) (l : List ℕ) (kind : Kind) (es : List Event) (x : Refusal) → refusal_at (place f n) kind ≡ Some x
     → survey_from any f (events_of st n o l kind ++ es) ≡ Err x
@@ -166,7 +155,7 @@ line_wrong any f st n o l Plain es x e = cc
 line_wrong any f st n o l Fence es x e = cc
 line_wrong any f st n o l (Fault k) es x e = fault_wrong (place f n) k x (survey_from any f es) e
 line_wrong any f st n o l Closes es x e = cc
-line_wrong any f st n o l (Opens a d peer) es x e = cc
+line_wrong any f st n o l (Opens g) es x e = cc
 line_wrong any f st n o l (Spans i) es x e = cc
 
 line_over : (any : Bool) (f : ℕ) (st : State) (n o : ℕ) (l : List ℕ) (kind : Kind) (es : List Event) → kind ≡ kind_at st o l
@@ -175,14 +164,14 @@ unfolding events_of kind_at span_events read_line survey_from
 line_over any f st n o l Plain es e x = rw (or-false any)
 line_over any f st n o l Fence es e x = rw (or-false any)
 line_over any f st n o l (Fault k) es e x =
-    let h : k < 4 = subst LowKind (sym e) (low_kind st.fence (is_some st.region) o l) in
+    let h : LowKind (Fault k) = subst LowKind (sym e) (low_kind st.fence (is_some st.region) o l) in
     fault_over (place f n) k (survey_from any f es) h x ∙ rw (or-false any)
 line_over any f st n o l Closes es e x = rw (or-true any) (go st.region (kind-closes st.fence (is_some st.region) o l (sym e)).1)
   where
     go : (r : Option Opener) → is_some r ≡ true → survey_from any f (closed_by n o r ++ es) ≡ survey_from true f es
     go None q = absurd (false≢true q)
     go (Some g) q = refl
-line_over any f st n o l (Opens a d peer) es e x = rw (or-false any)
+line_over any f st n o l (Opens g) es e x = rw (or-false any)
 line_over any f st n o l (Spans i) es e x =
     rw (or-false any)
     (spans_over any f n (read_line n (o + i) (drop i l)).spans (read_line n (o + i) (drop i l)).stop es
@@ -248,7 +237,7 @@ closes-not Plain h = refl
 closes-not Fence h = refl
 closes-not (Fault k) h = refl
 closes-not Closes h = absurd (h refl)
-closes-not (Opens a e peer) h = refl
+closes-not (Opens f) h = refl
 closes-not (Spans i) h = refl
 
 -- the survey of a file is what `scanned` says of it

@@ -1,10 +1,11 @@
 -- What a survey gathers, event by event. Nothing here is document 01's: inner functions promise it, and the laws of `proofs/SurveyLaws.antt` tie it to
 -- `Regions.antt` of `regions`.
-use Rattle.std.specs.Prelude.{ℕ, Bool, true, false, cond, List, [], ◌∷◌, eqb, Option, Some, None, Result, Ok, Err}
+use Rattle.std.specs.Prelude.{ℕ, Bool, true, false, cond, List, [], ◌∷◌, Option, Some, None, Result, Ok, Err}
 use Rattle.answer.specs.Answer.{place}
 use Rattle.answer.specs.declared.Place.{Place}
 use Rattle.answer.specs.declared.Refusal.{Refusal}
 use Rattle.answer.specs.declared.Refusal.TheVariants.{NestedRegion, FragmentMarker, UnclosedRegion}
+use Rattle.marker.specs.declared.problem.Problem.TheVariants as problems
 use Rattle.marker.specs.declared.line.Kind.{Kind}
 use Rattle.marker.specs.declared.line.Kind.TheVariants.{Plain, Fence, Fault, Closes, Opens, Spans}
 use Rattle.scan.specs.declared.event.Event.{Event}
@@ -36,9 +37,11 @@ survey_from any f (OfProblem n k ∷ es) = wrong_or (refusal_of k (place f n)) (
 abbrev pub refusal_at : Place → Kind → Option Refusal
 refusal_at p Plain = None
 refusal_at p Fence = None
-refusal_at p (Fault k) = cond (eqb k 2) (Some (NestedRegion p)) (cond (eqb k 3) (Some (FragmentMarker p)) None)
+refusal_at p (Fault problems.NestedRegion) = Some (NestedRegion p)
+refusal_at p (Fault problems.FragmentMarker) = Some (FragmentMarker p)
+refusal_at p (Fault k) = None
 refusal_at p Closes = None
-refusal_at p (Opens a e peer) = None
+refusal_at p (Opens g) = None
 refusal_at p (Spans i) = None
 
 -- whether a line of a kind closes a region
@@ -47,7 +50,7 @@ closes Plain = false
 closes Fence = false
 closes (Fault k) = false
 closes Closes = true
-closes (Opens a e peer) = false
+closes (Opens g) = false
 closes (Spans i) = false
 
 -- the answer at the text's end

@@ -8,6 +8,7 @@ ghost use Rattle.survey.specs.Surveys.{survey_of, refusal_at, survey_end};
 
 use answer::{Place, Refusal};
 use marker::line::Kind;
+use marker::problem::Problem;
 use scan::region::Cursor;
 use scan::state::Opener;
 use scan::{seek, state};
@@ -18,13 +19,13 @@ pub enum Surveyed {
     Regions,
 }
 
-// The refusal that a line of a kind is, at its place.
+// The refusal that a line of a kind is, at its place; None where it is none.
 fn refusal_at(place: Place, kind: Kind) -> Option<Refusal>
     ensures { result ≡ refusal_at place kind }
 {
     match kind {
-        Kind::Fault(2) => Some(Refusal::NestedRegion(place)),
-        Kind::Fault(3) => Some(Refusal::FragmentMarker(place)),
+        Kind::Fault(Problem::NestedRegion) => Some(Refusal::NestedRegion(place)),
+        Kind::Fault(Problem::FragmentMarker) => Some(Refusal::FragmentMarker(place)),
         _ => None,
     }
 }
@@ -43,7 +44,7 @@ fn at_end(region: Option<Opener>, any: bool, file: usize) -> Result<Surveyed, Re
     }
 }
 
-// What a scan of a file tells a fill. The file's number is for places.
+// What a scan of a file tells a fill: whether it has a region, or the first of the refusals 9 to 11. The file's number is for places.
 pub fn survey(s: &[u8], file: usize) -> Result<Surveyed, Refusal>
     ensures { (name : List ℕ) → result ≡ survey_of (scanned (file_of file name s.now)) }
 {
@@ -55,7 +56,7 @@ pub fn survey(s: &[u8], file: usize) -> Result<Surveyed, Refusal>
             file,
             line: line.number,
         };
-        let kind = state::kind_at(state, line.start, &s[line.start..line.end]);
+        let kind = state::kind_at(state, line.within(s));
         if let Some(refusal) = refusal_at(place, kind) {
             return Err(refusal);
         }

@@ -1,135 +1,108 @@
 #![tactic(auto)]
 
 // What a link's target becomes: the anchor of a member's title, a kept fragment, or the path at the repository.
-ghost use Rattle.std.specs.Prelude.{◌-◌, ◌≤◌, ◌<◌, length, take, drop};
+ghost use Rattle.std.specs.Prelude.{◌≡◌};
 ghost use Rattle.path.specs.Path.{resolve};
 ghost use Rattle.link.specs.Target.{placed, rewrite_target};
-ghost use Rattle.put.specs.Put.{source_text, Able, Wrote};
-ghost use Rattle.members.specs.Members.{member_at, title_source, AllStand};
-ghost use Rattle.target.specs.Titles.{titles_in, Named, FoundMember, TitleIn, inside};
+ghost use Rattle.put.specs.Running.{Reads, Ran, text_of};
+ghost use Rattle.members.specs.Members.{title_source};
+ghost use Rattle.target.specs.Titles.{titles_of, Stand, AreNamed, FoundMember, TitleIn, inside};
 
 use link::target;
-use put::{Room, Source};
+use members::{Assembly, Member};
+use put::Source;
+use put::running::RunningText;
 use text::pattern;
 
-// The last member of a name.
-fn find_member(index: &[u8], set: &[usize; 704], count: usize, name: &[u8]) -> Option<usize>
-    requires { Named index.now set.now count }
-    ensures { FoundMember index.now set.now count name.now result }
+// The last member of a name; None where no member has it.
+#[tactic(auto, using(crate::proofs::TitleLaws::seeking))]
+fn find_member(index: &[u8], members: &[Member], name: &[u8]) -> Option<Member>
+    requires { AreNamed index.now members.now }
+    ensures { FoundMember index.now members.now name.now result }
 {
-    let mut left = count;
-    while 0 < left {
-        let k = left - 1;
-        let m = members::member_at(set, k);
-        let other = m.name;
-        let a = other.start;
-        let e = other.end;
-        if pattern::equals(name, &index[a..e]) {
-            return Some(k);
+    for member in members.iter().rev() {
+        if pattern::equals(name, &index[member.name.start..member.name.end]) {
+            return Some(*member);
         }
-        left -= 1;
     }
     None
 }
 
-// A target that names a member: its bytes from a place on, or where there are none `#` and the anchor of the member's title.
-fn put_inside(
-    contents: &[u8],
-    set: &[usize; 704],
-    k: usize,
-    target: Source,
-    e: usize,
-    room: Room,
-    work: &mut [u8],
-) -> Option<usize>
-    requires { Able target room contents.now work.old × ((e ≤ target.end - target.start) × ((k < 64) × (TitleIn (member_at set.now k) × Able (title_source (member_at set.now k)) room contents.now work.old))) }
-    ensures { Wrote room (inside (drop e (source_text target contents.now work.old)) (source_text (title_source (member_at set.now k)) contents.now work.old)) work.old work.new result }
+// A target that names a member: the rest of it behind the path, or where there is none `#` and the anchor of the member's title.
+#[tactic(auto, using(crate::proofs::TitleLaws::inside_or))]
+fn put_inside(member: Member, rest: Source, running: &mut RunningText) -> Option<()>
+    requires able { Reads running.old rest }
+    requires title { TitleIn member × Reads running.old (title_source member) }
+    ensures same_reference { running.new.work.ghost_name ≡ running.old.work.ghost_name }
+    ensures ran { Ran (inside (text_of running.old rest) (text_of running.old (title_source member))) running.old running.new result }
 {
-    let n = target.end - target.start;
-    if e < n {
-        return put::put_part(contents, target, e, n, room, work);
+    if rest.start < rest.end {
+        return running.put_part(rest, 0, rest.end - rest.start);
     }
-    let title = members::title_of(members::member_at(set, k));
-    pointer::put_anchor(contents, title, room, work)
+    pointer::put_anchor(member.title(), running)
 }
 
 // A target whose path is resolved, where it names a member or not.
+#[tactic(auto, using(crate::proofs::TitleLaws::naming))]
 fn put_named(
-    index: &[u8],
-    contents: &[u8],
-    url: &[u8],
-    set: &[usize; 704],
-    count: usize,
+    assembly: Assembly,
     resolved: &[u8],
-    target: Source,
-    e: usize,
-    room: Room,
-    work: &mut [u8],
-) -> Option<usize>
-    requires { Able target room contents.now work.old × ((e ≤ target.end - target.start) × AllStand index.now (length contents.now) room.limit (length work.old) set.now count) }
-    ensures { Wrote room (placed url.now resolved.now (drop e (source_text target contents.now work.old)) (titles_in index.now contents.now work.old set.now count resolved.now)) work.old work.new result }
+    rest: Source,
+    running: &mut RunningText,
+) -> Option<()>
+    requires able { Reads running.old rest }
+    requires stand { Stand running.old assembly }
+    ensures same_reference { running.new.work.ghost_name ≡ running.old.work.ghost_name }
+    ensures ran { Ran (placed assembly.entry.url.now resolved.now (text_of running.old rest) (titles_of running.old assembly.entry resolved.now)) running.old running.new result }
 {
-    match find_member(index, set, count, resolved) {
-        Some(k) => put_inside(contents, set, k, target, e, room, work),
-        None => pointer::put_outside(contents, url, resolved, target, e, room, work),
+    match find_member(assembly.index, assembly.members, resolved) {
+        Some(member) => put_inside(member, rest, running),
+        None => pointer::put_outside(assembly.url, resolved, rest, running),
     }
 }
 
-// A target that is a path up to a place, in a directory. A name has at most 255 bytes, so that a longer path names no member.
+// A target that is a path in a directory and the rest behind it. A name has at most 255 bytes, so that a longer path names no member.
+#[tactic(auto, using(crate::proofs::TitleLaws::placing))]
 fn put_placed(
-    index: &[u8],
-    contents: &[u8],
-    url: &[u8],
-    set: &[usize; 704],
-    count: usize,
-    target: Source,
-    e: usize,
+    assembly: Assembly,
+    path: Source,
+    rest: Source,
     dir: &[u8],
-    room: Room,
-    work: &mut [u8],
-) -> Option<usize>
-    requires { Able target room contents.now work.old × ((e ≤ target.end - target.start) × AllStand index.now (length contents.now) room.limit (length work.old) set.now count) }
-    ensures { Wrote room (placed url.now (resolve dir.now (take e (source_text target contents.now work.old))) (drop e (source_text target contents.now work.old)) (titles_in index.now contents.now work.old set.now count (resolve dir.now (take e (source_text target contents.now work.old))))) work.old work.new result }
+    running: &mut RunningText,
+) -> Option<()>
+    requires path { Reads running.old path }
+    requires rest { Reads running.old rest }
+    requires stand { Stand running.old assembly }
+    ensures same_reference { running.new.work.ghost_name ≡ running.old.work.ghost_name }
+    ensures ran { Ran (placed assembly.entry.url.now (resolve dir.now (text_of running.old path)) (text_of running.old rest) (titles_of running.old assembly.entry (resolve dir.now (text_of running.old path)))) running.old running.new result }
 {
-    let mut resolved = [0u8; 256];
-    let path = put::part_of(target, 0, e);
-    match resolve::resolve_into(path.bytes(contents, work), dir, &mut resolved) {
-        Some(a) => put_named(
-            index,
-            contents,
-            url,
-            set,
-            count,
-            &resolved[a..],
-            target,
-            e,
-            room,
-            work,
-        ),
-        None => pointer::put_far(contents, url, target, e, dir, room, work),
+    let mut resolved = [0; 256];
+    match resolve::resolve_into(running.bytes(path), dir, &mut resolved) {
+        Some(a) => put_named(assembly, &resolved[a..], rest, running),
+        None => pointer::put_far(assembly.url, path, rest, dir, running),
     }
 }
 
 // What a target becomes in a text in a directory.
+#[tactic(auto, using(crate::proofs::TitleLaws::becoming))]
 pub fn put_target(
-    index: &[u8],
-    contents: &[u8],
-    url: &[u8],
-    set: &[usize; 704],
-    count: usize,
+    assembly: Assembly,
     target: Source,
     dir: &[u8],
-    room: Room,
-    work: &mut [u8],
-) -> Option<usize>
-    requires { Able target room contents.now work.old × AllStand index.now (length contents.now) room.limit (length work.old) set.now count }
-    ensures { Wrote room (rewrite_target (titles_in index.now contents.now work.old set.now count) url.now dir.now (source_text target contents.now work.old)) work.old work.new result }
+    running: &mut RunningText,
+) -> Option<()>
+    requires able { Reads running.old target }
+    requires stand { Stand running.old assembly }
+    ensures same_reference { running.new.work.ghost_name ≡ running.old.work.ghost_name }
+    ensures ran { Ran (rewrite_target (titles_of running.old assembly.entry) assembly.entry.url.now dir.now (text_of running.old target)) running.old running.new result }
 {
-    match target::read_target(target.bytes(contents, work)) {
-        None => {
-            let n = target.end - target.start;
-            put::put_part(contents, target, 0, n, room, work)
+    let n = target.end - target.start;
+    match target::read_target(running.bytes(target)) {
+        None => running.put_part(target, 0, n),
+        Some(e) => {
+            let path = target.part(0, e);
+            let rest = target.part(e, n);
+            put_placed(assembly, path, rest, dir, running)
         }
-        Some(e) => { put_placed(index, contents, url, set, count, target, e, dir, room, work) }
     }
 }

@@ -33,15 +33,15 @@ pub fn find_wide(s: &[u8]) -> usize
     seen
 }
 
-// The line of the first such byte, or 0.
-pub fn wide_line(s: &[u8]) -> usize
+// The line of the first such byte; None where there is none.
+pub fn wide_line(s: &[u8]) -> Option<usize>
     ensures { result ≡ wide_line 1 s.now }
 {
     let p = find_wide(s);
     if p == s.len() {
-        return 0;
+        return None;
     }
-    1 + bytes::count_byte(&s[..p], b'\n')
+    Some(1 + bytes::count_byte(&s[..p], b'\n'))
 }
 
 // A byte in lower case.

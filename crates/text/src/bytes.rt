@@ -3,7 +3,7 @@
 ghost use Rattle.std.specs.Prelude.{◌≡◌, ◌+◌, ◌≤◌, length, drop};
 ghost use Rattle.text.specs.Bytes.{is, bit as bit_of, any, first, count as count_of, after_last};
 
-// 1 or 0.
+// A bool as a number, for a table of numbers.
 pub fn bit(b: bool) -> usize
     ensures { result ≡ bit_of b }
 {
@@ -74,14 +74,14 @@ pub fn count_byte(s: &[u8], b: u8) -> usize
     n
 }
 
-// The place after the last b of s, or 0, byte by byte.
+// The place after the last b of s, or the start of s, byte by byte.
 fn after_near(s: &[u8], b: u8) -> usize
     ensures { (result ≡ after_last (is b) s.now) × (result ≤ length s.now) }
 {
     s.len() - s.iter().rev().take_while(|x| **x != b).count()
 }
 
-// The place after the last b of s, or 0.
+// The place after the last b of s, or the start of s: a place in both cases, where a line or a part of a path begins.
 pub fn after_last(s: &[u8], b: u8) -> usize
     ensures { (result ≡ after_last (is b) s.now) × (result ≤ length s.now) }
 {

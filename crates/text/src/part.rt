@@ -1,7 +1,7 @@
 // A part of a text.
 
 // From a place up to, not including, another.
-#[derive(Clone, Copy)]
+#[derive(Clone, Copy, Default, PartialEq, Eq)]
 pub struct Part {
     pub start: usize,
     pub end: usize,

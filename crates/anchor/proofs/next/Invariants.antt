@@ -4,8 +4,8 @@ use mathlib.Core.Path.{◌≡◌}
 use Rattle.anchor.specs.Anchor.{anchor_from, CursorWithin}
 use Rattle.anchor.proofs.next.Given as goal
 
-abbrev pub invariant-loop-c : goal.invariant-loop-c
-invariant-loop-c l = CursorWithin l.c l.text × ((l.initial.c.at ≤ l.c.at) × (anchor_from l.initial.c l.text ≡ anchor_from l.c l.text))
+abbrev pub invariant-loop-read : goal.invariant-loop-read
+invariant-loop-read l = CursorWithin l.c l.text × ((l.initial.c.at ≤ l.c.at) × (anchor_from l.initial.c l.text ≡ anchor_from l.c l.text))
 
-abbrev pub decreases-loop-c : goal.decreases-loop-c
-decreases-loop-c l = l.c.end - l.c.at
+abbrev pub decreases-loop-read : goal.decreases-loop-read
+decreases-loop-read l = l.c.end - l.c.at

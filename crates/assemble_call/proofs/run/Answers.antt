@@ -1,30 +1,28 @@
 -- `run` meets its contract: refused by the checks, or assembled. Assumes nothing.
-use native.Mathlib.Omega.{arith}
-use mathlib.Core.Path.{refl, sym, ◌∙◌}
-use mathlib.Core.List.{List}
-use Prim.Native.Nat.{ℕ}
-use Rattle.listed.proofs.FilesLaws.{are_listed, all_lie, files-same}
-use Rattle.assemble_call.proofs.AssembleCallLaws.{assemble-room, assemble_held, assemble-passed, assemble-stopped}
-use Rattle.give.specs.Given.{assembled}
-use Rattle.give.proofs.GivenLaws.{assembled_read, assembled-fits}
+use Rattle.std.proofs.lemmas.Result.{err_from_is_err_and}
+use mathlib.Core.Path.{sym, ◌∙◌}
+use Rattle.fileset.proofs.CheckLaws.{files_told}
+use Rattle.assemble_call.proofs.AssembleCallLaws.{assemble_held, can-assemble, assemble-passed, assemble-stopped}
 use Rattle.assemble_call.proofs.run.Goals as goal
 
-pub put_files-requires : goal.put_files-requires
-put_files-requires c = let a = c.args in let b = c.check_book.new in let k = c.in-Ok.ensures in
-    (refl, are_listed a.index.now a.contents.now a.list.now a.url.now b.rows b.members a.sizes.limit a.sizes.output a.sizes.work c.line_count-count.result (sym k.value) k.read k.listed c.line_count-count.ensures (omega (arith, c.well_formed.1.0.0)))
+pub assemble_listed-requires : goal.assemble_listed-requires
+assemble_listed-requires c =
+    let a = c.args in
+    let k = c.in_ok-files.ensures in
+    let l = c.as_slice.ensures in
+    (k.read.short, rw (← c.requires) (can-assemble a.index.now a.contents.now a.list.now a.url.now a.sizes.limit a.sizes.output a.sizes.work (sym k.value) (files_told k.read) (l.value ∙ k.listed) l.fits))
 
-pub assemble-text-requires : goal.assemble-text-requires
-assemble-text-requires c = let a = c.args in let b = c.check_book.new in let k = c.in-Ok.ensures in
-    let r = assemble-room a.index.now a.contents.now a.list.now a.url.now a.sizes.limit a.sizes.output a.sizes.work (sym k.value) in (
-      all_lie a.index.now a.contents.now a.list.now a.url.now b.rows b.members a.sizes.limit a.sizes.output a.sizes.work c.line_count-count.result (sym k.value) k.read k.listed c.line_count-count.ensures c.put_files.ensures a.sizes.limit,
-      (omega arith, (r.0, omega (arith, r.1, c.requires))),
-    )
+pub returns-in_err-files : goal.returns-in_err-files
+returns-in_err-files c = let a = c.args in
+    let q = err_from_is_err_and c.from_residual.result c.from_residual.ensures.1 in
+    rw (q.1, q.2) (record { work_after = assemble-stopped a.index.now a.contents.now a.list.now a.url.now a.sizes.limit a.sizes.output a.sizes.work c.in_err-files.ensures.value; fits = tt })
 
-pub returns-in-Err : goal.returns-in-Err
-returns-in-Err c = let a = c.args in
-    record { work_after = assemble-stopped a.index.now a.contents.now a.list.now a.url.now a.sizes.limit a.sizes.output a.sizes.work (sym c.in-Err.is ∙ c.check_book.ensures.value); fits = tt }
-
-pub returns-in-Ok : goal.returns-in-Ok
-returns-in-Ok c = let a = c.args in let b = c.check_book.new in let k = c.in-Ok.ensures in let f = c.assemble-text in let e = c.answer_of.ensures in
-    let w : List ℕ = f.new.work in
-    let s = files-same a.index.now a.contents.now a.list.now a.url.now b.rows b.members a.sizes.limit a.sizes.output a.sizes.work c.line_count-count.result (sym k.value) k.read k.listed c.line_count-count.ensures c.put_files.ensures a.work.now in record { work_after = rw e (sym (assembled_read 0 f.result w) ∙ assemble-passed a.index.now a.contents.now a.list.now a.url.now a.sizes.limit a.sizes.output a.sizes.work (sym k.value) s (f.ensures.by_index 0 0)); fits = rw e (assemble_held a.index.now a.contents.now a.list.now a.url.now a.sizes.limit a.sizes.output a.sizes.work (sym k.value) (assembled 0 f.result) (assembled-fits 0 f.result a.sizes.limit f.ensures.assembled_within)) }
+pub returns : goal.returns
+returns c =
+    let a = c.args in
+    let k = c.in_ok-files.ensures in
+    let f = c.assemble_listed in
+    record {
+      work_after = assemble-passed a.index.now a.contents.now a.list.now a.url.now a.sizes.limit a.sizes.output a.sizes.work (sym k.value) (files_told k.read) (c.as_slice.ensures.value ∙ k.listed) f.ensures.work_after;
+      fits = assemble_held a.index.now a.contents.now a.list.now a.url.now a.sizes.limit a.sizes.output a.sizes.work (sym k.value) f.result f.ensures.fits;
+    }

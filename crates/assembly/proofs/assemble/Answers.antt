@@ -33,4 +33,4 @@ returns-in-Some c = let s = c in
 pub returns-in_err-prepare_all : goal.returns-in_err-prepare_all
 returns-in_err-prepare_all c = let s = c in
     let p = err_from_is_err_and c.from_residual.result c.from_residual.ensures.1 in
-    rw (p.1, p.2) record { by_index = (λ B n. whole_stops s.args.index.now s.args.contents.now s.args.work.now s.args.set.now s.args.count s.args.url.now _ (c.in_err-prepare_all.ensures s.args.index.now) B s.args.limit n); assembled_within = tt }
+    rw (p.1, p.2) record { by_index = (λ B n. whole_stops s.args.index.now s.args.contents.now s.args.work.now s.args.members.now s.args.url.now _ (c.in_err-prepare_all.ensures s.args.index.now) B s.args.limit n); assembled_within = tt }

@@ -1,29 +1,33 @@
--- `emit_all` meets its contract. Assumes nothing.
-use Rattle.std.specs.Prelude.{[], ◌∷◌}
+-- `emit_all` meets its contract. The invariant: i members are emitted. Assumes nothing.
 use Rattle.std.proofs.lemmas.Result.{err_from_is_err_and}
 use native.Mathlib.Omega.{arith}
-use Rattle.assembly.proofs.EmittingLaws.{emitting_start, emitting_able, emitting_next, emitting_stops, emitting_last}
-use Rattle.assembly.proofs.LastLaws.{put-within}
+use mathlib.Core.Path.{refl, ◌∙◌}
+use Rattle.assembly.proofs.EmittingLaws.{emitting_start, emitting_can, emitting_next, emitting_stops, emitting_full, emitting_ended}
 use Rattle.assembly.proofs.emit_all.Goals as goal
 
 pub loop-i-init : goal.loop-i-init
-loop-i-init c = let s = c in emitting_start s.args.index.now s.args.contents.now s.args.url.now s.args.set.now s.args.count s.args.limit s.args.work.now
+loop-i-init c = record { emitting = emitting_start c.args.assembly _ refl; same_reference = refl }
 
-pub emit-requires : goal.emit-requires
-emit-requires c = (emitting_able c.requires c.loop-i.invariant, (c.loop-i-test.true, c.loop-i.invariant.below))
+pub emit-requires-clause-can : goal.emit-requires-clause-can
+emit-requires-clause-can c = emitting_can c.requires c.loop-i.invariant.emitting
 
-pub returns-in_err-at : goal.returns-in_err-at
-returns-in_err-at c = let p = err_from_is_err_and c.from_residual.result c.from_residual.ensures.1 in rw (p.1, p.2) (record { by_index = emitting_stops c.requires c.loop-i.invariant c.loop-i-test.true c.emit.new.work (omega arith) _ c.in_err-at.ensures; assembled_within = tt })
+pub returns-in_err-emit-clause-by_index : goal.returns-in_err-emit-clause-by_index
+returns-in_err-emit-clause-by_index c =
+    let p = err_from_is_err_and c.from_residual.result c.from_residual.ensures.1 in
+    rw (p.1, p.2) (emitting_stops c.requires c.loop-i.invariant.emitting _ c.loop-i-test.true c.emit.new.running _ c.in_err-emit.ensures.added)
 
 pub loop-i-preserved : goal.loop-i-preserved
-loop-i-preserved c = emitting_next c.requires c.loop-i.invariant c.loop-i-test.true c.emit.new.work (omega arith) c.member_at-file.result c.member_at-file.ensures _ c.in_ok-at.ensures
+loop-i-preserved c = record {
+  emitting = emitting_next c.requires c.loop-i.invariant.emitting _ c.loop-i-test.true c.in_ok-emit.ensures.added;
+  same_reference = c.in_ok-emit.ensures.same_reference ∙ c.loop-i.invariant.same_reference;
+}
 
-pub put_bytes-requires : goal.put_bytes-requires
-put_bytes-requires c = (c.loop-i.invariant.below, (emitting_able c.requires c.loop-i.invariant).fits)
+pub returns-in_err-answer_of-clause-by_index : goal.returns-in_err-answer_of-clause-by_index
+returns-in_err-answer_of-clause-by_index c =
+    let p = err_from_is_err_and c.from_residual-in_err-answer_of.result c.from_residual-in_err-answer_of.ensures.1 in
+    rw (p.1, p.2) (emitting_full c.requires c.loop-i.invariant.emitting (omega arith) _ c.put_bytes.result c.put_bytes.ensures.ran _ (grind arith))
 
-pub returns : goal.returns
-returns c = let s = c in let y = c.put_bytes.result in
-    record {
-      by_index = rw c.answer_of.ensures (emitting_last s.requires c.loop-i.invariant (omega (arith, c.loop-i-test)) _ y c.put_bytes.ensures);
-      assembled_within = rw c.answer_of.ensures (put-within (record { at = c.loop-i.at; limit = s.args.limit }) (0x0A ∷ []) c.loop-i.work c.put_bytes.new.work c.loop-i.file y c.put_bytes.ensures);
-    }
+pub returns-clause-by_index : goal.returns-clause-by_index
+returns-clause-by_index c =
+    emitting_ended c.requires c.loop-i.invariant.emitting (omega arith) _ c.put_bytes.result c.put_bytes.ensures.ran tt (grind arith) _
+    (grind (arith, c.put_bytes.ensures.same_reference, c.loop-i.invariant.same_reference))

@@ -4,8 +4,8 @@ use Prim.Native.Nat.{◌-◌}
 use Rattle.embedding.proofs.DropLaws.{Dropped}
 use Rattle.embedding.proofs.drop_markers.Given as goal
 
-abbrev pub invariant-loop-g : goal.invariant-loop-g
-invariant-loop-g l = Dropped l.initial.work l.n l.work l.at l.c
+abbrev pub invariant-loop-region : goal.invariant-loop-region
+invariant-loop-region l = Dropped l.initial.work l.n l.work l.at l.c
 
-abbrev pub decreases-loop-g : goal.decreases-loop-g
-decreases-loop-g l = l.n - l.c.at
+abbrev pub decreases-loop-region : goal.decreases-loop-region
+decreases-loop-region l = l.n - l.c.at

@@ -1,65 +1,59 @@
 -- `emission::put_lines` meets its contract. The invariant: the lines before the cursor are put. Assumes nothing.
 use native.Mathlib.Omega.{arith}
-use Rattle.heading.proofs.LevelLaws.{shift_kept}
-use Rattle.put.proofs.PutLaws.{able_on}
-use Rattle.rewrite.proofs.LinkedLaws.{all_on, rewriting_same}
-use Rattle.emission.proofs.PuttingLaws.{cursor_in, putting_end, block_bounds, block_over, putting_block, line_bounds, line-kind, line-less, line_over, putting_on}
+use mathlib.Core.Path.{◌∙◌}
+use mir.Syntax.{w32}
+use Rattle.std.proofs.lemmas.Int.{to_z-of_z}
+use Rattle.rewrite.proofs.LinkedLaws.{rewriting_same}
+use Rattle.emission.proofs.PuttingLaws.{cursor_in, putting_end, block_bounds, block_over, putting_block, line_in, line-less, line_over, putting_on}
 use Rattle.emission.proofs.put_lines.Goals as goal
 
-pub put_block-requires : goal.put_block-requires
-put_block-requires c =
-    let i = rw (shift_kept c.args.shift c.requires.1.1) at c.loop-at.invariant in
-    (able_on c.requires.0 i.reached, block_bounds c.requires.0 i (rw c.bytes.ensures.text at c.pass-passed.ensures))
+pub put_block-requires-clause-order : goal.put_block-requires-clause-order
+put_block-requires-clause-order c = block_bounds c.requires.able c.loop-running.invariant.putting (rw c.bytes.ensures.text at c.pass-passed.ensures)
 
-pub returns-in_err-at : goal.returns-in_err-at
-returns-in_err-at c =
-    let i = rw (shift_kept c.args.shift c.requires.1.1) at c.loop-at.invariant in
-    rw c.from_residual.ensures (block_over c.requires.0 i (rw c.bytes.ensures.text at c.pass-passed.ensures) c.in_err-at.ensures)
+pub returns-in_err-put_block-clause-ran : goal.returns-in_err-put_block-clause-ran
+returns-in_err-put_block-clause-ran c =
+    let i = rw (to_z-of_z w32 c.args.shift c.ranges.shift) at c.loop-running.invariant.putting in
+    rw c.from_residual.ensures (block_over c.requires.able i (rw c.bytes.ensures.text at c.pass-passed.ensures) c.in_err-put_block.ensures.ran)
 
 pub next_line-requires : goal.next_line-requires
 next_line-requires c =
-    let i = rw (shift_kept c.args.shift c.requires.1.1) at c.loop-at.invariant in
-    let b = putting_block c.requires.0 i (rw c.bytes.ensures.text at c.pass-passed.ensures) _ _ c.in_ok-at.ensures in
-    rw c.bytes-in-loop-at.ensures.text (cursor_in c.requires.0 b)
+    let b = putting_block c.requires.able c.loop-running.invariant.putting (rw c.bytes.ensures.text at c.pass-passed.ensures) c.in_ok-put_block.ensures.ran in
+    rw c.bytes-in-loop-running.ensures.text (cursor_in c.requires.able b)
 
-pub returns-in_default : goal.returns-in_default
-returns-in_default c =
-    let i = rw (shift_kept c.args.shift c.requires.1.1) at c.loop-at.invariant in
-    let b = putting_block c.requires.0 i (rw c.bytes.ensures.text at c.pass-passed.ensures) _ _ c.in_ok-at.ensures in
-    putting_end c.requires.0 b (rw c.bytes-in-loop-at.ensures.text at c.in_default.ensures)
+pub returns-in_default-clause-ran : goal.returns-in_default-clause-ran
+returns-in_default-clause-ran c =
+    let i = rw (to_z-of_z w32 c.args.shift c.ranges.shift) at c.loop-running.invariant.putting in
+    let b = putting_block c.requires.able i (rw c.bytes.ensures.text at c.pass-passed.ensures) c.in_ok-put_block.ensures.ran in
+    putting_end c.requires.able b (rw c.bytes-in-loop-running.ensures.text at c.in_default.ensures)
 
-pub put_next-requires : goal.put_next-requires
-put_next-requires c =
-    let z = shift_kept c.args.shift c.requires.1.1 in
-    let i = rw z at c.loop-at.invariant in
-    let b = putting_block c.requires.0 i (rw c.bytes.ensures.text at c.pass-passed.ensures) _ _ c.in_ok-at.ensures in
-    let l = rw c.bytes-in-loop-at.ensures.text at c.in-Some.ensures in
-    let o = line_bounds c.requires.0 b l in (
-      able_on c.requires.0 b.reached,
-      (all_on c.args.contents.now c.requires.1.0 b.reached, (o.0, (o.1, (rw c.moved_kind-moved.ensures (line-kind c.requires.0 b l), rw z c.requires.1.1)))),
-    )
+pub put_next-requires-clause-line_in : goal.put_next-requires-clause-line_in
+put_next-requires-clause-line_in c =
+    let b = putting_block c.requires.able c.loop-running.invariant.putting (rw c.bytes.ensures.text at c.pass-passed.ensures) c.in_ok-put_block.ensures.ran in
+    line_in c.requires.able b (rw c.bytes-in-loop-running.ensures.text at c.in-Some.ensures) c.moved_kind-kind.ensures
 
-pub returns-in_err-at-2 : goal.returns-in_err-at-2
-returns-in_err-at-2 c =
-    let z = shift_kept c.args.shift c.requires.1.1 in
-    let i = rw z at c.loop-at.invariant in
-    let b = putting_block c.requires.0 i (rw c.bytes.ensures.text at c.pass-passed.ensures) _ _ c.in_ok-at.ensures in
-    let l = rw c.bytes-in-loop-at.ensures.text at c.in-Some.ensures in
-    let f = rewriting_same c.args.contents.now c.requires.1.0 b.reached c.args.url.now c.args.dir.now in
-    rw c.from_residual-in_err-at-2.ensures (line_over c.requires.0 b l f c.moved_kind-moved.ensures z c.in_err-at-2.ensures)
+pub returns-in_err-put_next-clause-ran : goal.returns-in_err-put_next-clause-ran
+returns-in_err-put_next-clause-ran c =
+    let z = to_z-of_z w32 c.args.shift c.ranges.shift in
+    let i = rw z at c.loop-running.invariant.putting in
+    let b = putting_block c.requires.able i (rw c.bytes.ensures.text at c.pass-passed.ensures) c.in_ok-put_block.ensures.ran in
+    let l = rw c.bytes-in-loop-running.ensures.text at c.in-Some.ensures in
+    let f = rewriting_same c.requires.stand b.left.put c.args.assembly.url.now c.args.dir.now in
+    rw c.from_residual-in_err-put_next.ensures (line_over c.requires.able b l f c.moved_kind-kind.ensures z c.in_err-put_next.ensures.ran)
 
-pub loop-at-smaller : goal.loop-at-smaller
-loop-at-smaller c =
-    let i = rw (shift_kept c.args.shift c.requires.1.1) at c.loop-at.invariant in
+pub loop-running-smaller : goal.loop-running-smaller
+loop-running-smaller c =
     let h = rw c.bytes.ensures.text at c.pass-passed.ensures in
-    let b = putting_block c.requires.0 i h _ _ c.in_ok-at.ensures in
-    omega (arith, line-less c.requires.0 b (rw c.bytes-in-loop-at.ensures.text at c.in-Some.ensures), block_bounds c.requires.0 i h)
+    let b = putting_block c.requires.able c.loop-running.invariant.putting h c.in_ok-put_block.ensures.ran in
+    omega (arith, line-less c.requires.able b (rw c.bytes-in-loop-running.ensures.text at c.in-Some.ensures), block_bounds c.requires.able c.loop-running.invariant.putting h)
 
-pub loop-at-preserved : goal.loop-at-preserved
-loop-at-preserved c =
-    let z = shift_kept c.args.shift c.requires.1.1 in
-    let i = rw z at c.loop-at.invariant in
-    let b = putting_block c.requires.0 i (rw c.bytes.ensures.text at c.pass-passed.ensures) _ _ c.in_ok-at.ensures in
-    let l = rw c.bytes-in-loop-at.ensures.text at c.in-Some.ensures in
-    let f = rewriting_same c.args.contents.now c.requires.1.0 b.reached c.args.url.now c.args.dir.now in
-    rw (c.titled_by-titled.ensures, z) (putting_on c.requires.0 b l f c.moved_kind-moved.ensures z _ _ c.in_ok-at-2.ensures)
+pub loop-running-preserved : goal.loop-running-preserved
+loop-running-preserved c =
+    let z = to_z-of_z w32 c.args.shift c.ranges.shift in
+    let i = rw z at c.loop-running.invariant.putting in
+    let b = putting_block c.requires.able i (rw c.bytes.ensures.text at c.pass-passed.ensures) c.in_ok-put_block.ensures.ran in
+    let l = rw c.bytes-in-loop-running.ensures.text at c.in-Some.ensures in
+    let f = rewriting_same c.requires.stand b.left.put c.args.assembly.url.now c.args.dir.now in
+    record {
+      putting = rw (c.titled_by-titled.ensures, z) (putting_on c.requires.able b l f c.moved_kind-kind.ensures z c.in_ok-put_next.ensures.ran);
+      same_reference = c.in_ok-put_next.ensures.same_reference ∙ c.in_ok-put_block.ensures.same_reference ∙ c.loop-running.invariant.same_reference;
+    }

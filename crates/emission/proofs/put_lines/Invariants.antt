@@ -1,14 +1,16 @@
 -- `emission::put_lines` meets its contract. The invariant: the lines before the cursor are put. Assumes nothing.
-use Prim.Native.Nat.{◌+◌, ◌-◌}
+use Rattle.std.proofs.Common.{◌≡◌, ◌+◌, ◌-◌}
 use Rattle.link.specs.Target.{rewrite_target}
-use Rattle.target.specs.Titles.{titles_in}
+use Rattle.target.specs.Titles.{titles_of}
 use Rattle.emission.proofs.PuttingLaws.{Putting}
 use Rattle.emission.proofs.put_lines.Given as goal
 
-abbrev pub invariant-loop-at : goal.invariant-loop-at
-invariant-loop-at l =
-    Putting (rewrite_target (titles_in l.index l.contents l.initial.work l.set l.count) l.url l.dir) l.shift l.source (record { at = l.initial.at; limit = l.limit }) l.contents l.initial.work l.work l.at l.cursor l.titled
+abbrev pub invariant-loop-running : goal.invariant-loop-running
+invariant-loop-running l =
+    record {
+      putting : Putting (rewrite_target (titles_of l.initial.running l.assembly) l.assembly.url.now l.dir) l.shift l.source l.initial.running l.running l.cursor l.titled;
+      same_reference : l.running.work.ghost_name ≡ l.initial.running.work.ghost_name;
+    }
 
-abbrev pub decreases-loop-at : goal.decreases-loop-at
-decreases-loop-at l =
-    l.source.end - l.source.start + 1 - l.cursor.at
+abbrev pub decreases-loop-running : goal.decreases-loop-running
+decreases-loop-running l = l.source.end - l.source.start + 1 - l.cursor.at

@@ -9,11 +9,11 @@ use mathlib.Core.Path.{◌≡◌}
 use Prim.Native.Nat.{◌+◌}
 use Rattle.events.proofs.put_last.Goals as goal
 
-pub returns-then-state : goal.returns-then-state
-returns-then-state c =
+pub returns-then-state-clause-held : goal.returns-then-state-clause-held
+returns-then-state-clause-held c =
     let a = c.args in
     let k : a.n + c.line_count.result ≡ a.n + length (lines_from a.a (drop a.a a.s.now)) = omega (arith, rw rest at c.line_count.ensures.0, lines-length (drop a.a a.s.now) 0 a.a) in
-    last_open _ _ _ _ c.put_unclosed-to.ensures c.if-state.true (rw k at c.put.ensures)
+    last_open _ _ _ _ c.put_unclosed.ensures.held c.if-state.true (rw k at c.put.ensures.held)
 
-pub returns : goal.returns
-returns c = last_shut _ _ _ _ c.put_unclosed-to.ensures c.if-state.false
+pub returns-else-state-clause-held : goal.returns-else-state-clause-held
+returns-else-state-clause-held c = last_shut _ _ _ _ c.put_unclosed.ensures.held c.if-state.false

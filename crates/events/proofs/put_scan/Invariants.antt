@@ -1,5 +1,5 @@
 -- `events::put_scan` meets its contract. The invariant: what a scan from place a on finds, put after what was put so far, is the whole. Assumes nothing.
-use Rattle.event_log.specs.Sink.{sink, put_all}
+use Rattle.event_log.specs.Sink.{held, put_all}
 use Rattle.scan.specs.Scan.{scan, scan_from}
 use Rattle.text.specs.Lines.{lines_from}
 use lib.ListN.{length, drop}
@@ -11,7 +11,9 @@ abbrev pub invariant-loop-line : goal.invariant-loop-line
 invariant-loop-line l =
     (l.a ≤ length l.s)
     × ((l.n ≤ l.a)
-    × (put_all (scan_from l.state (l.n + 1) (lines_from l.a (drop l.a l.s))) (sink l.to l.log l.out) ≡ put_all (scan l.s) (sink l.initial.to l.initial.log l.initial.out)))
+    × ((l.sink.log.ghost_name ≡ l.initial.sink.log.ghost_name)
+    × ((l.sink.out.ghost_name ≡ l.initial.sink.out.ghost_name)
+    × (put_all (scan_from l.state (l.n + 1) (lines_from l.a (drop l.a l.s))) (held l.sink) ≡ put_all (scan l.s) (held l.initial.sink)))))
 
 abbrev pub decreases-loop-line : goal.decreases-loop-line
 decreases-loop-line l = length l.s - l.a

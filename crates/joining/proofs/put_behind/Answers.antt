@@ -1,9 +1,13 @@
 -- `put_behind` meets its contract: what is put behind the rule is what would be put before it. Assumes nothing.
-use Rattle.heading.proofs.LevelLaws.{shift_kept}
-use Rattle.joining.proofs.BehindLaws.{rule_lines}
+use mir.Syntax.{w32}
+use Rattle.std.proofs.lemmas.Int.{to_z-of_z}
+use Rattle.joining.proofs.BehindLaws.{rule_reads, rule_lines}
 use Rattle.joining.proofs.put_behind.Goals as goal
 
-pub returns : goal.returns
-returns c = let s = c in
-    rule_lines s.args.room s.args.work.now s.requires.0 s.args.i s.requires.1.0 s.requires.1.1.1 _ c.in_ok-at.at c.in_ok-at.ensures s.args.url.now s.args.shift c.member_at-member.result c.member_at-member.ensures c.text_of.result c.text_of.ensures _ c.parent_dir.ensures.0 _ c.put_lines.result
-    (rw (shift_kept s.args.shift s.requires.1.1.0) at c.put_lines.ensures)
+pub put_lines-requires-clause-able : goal.put_lines-requires-clause-able
+put_lines-requires-clause-able c = rw c.text.ensures (rule_reads c.args.running.now c.args.assembly c.requires.can c.requires.among.0 c.requires.among.1 c.in_ok-put_between.ensures.ran)
+
+pub returns-clause-ran : goal.returns-clause-ran
+returns-clause-ran c =
+    rule_lines c.args.running.now c.args.assembly c.requires.can c.requires.among.0 c.requires.among.1 c.in_ok-put_between.ensures.ran c.parent_dir.ensures.0 c.args.shift _ c.put_lines.result
+    (rw (c.text.ensures, to_z-of_z w32 c.args.shift c.ranges.shift) at c.put_lines.ensures.ran)

@@ -4,7 +4,7 @@ use Rattle.notes.proofs.NotesLaws.{record_room}
 use Rattle.notes.proofs.put_record.Goals as goal
 
 pub put_record-requires : goal.put_record-requires
-put_record-requires g c = omega (arith, record_room (take c.if-is_name.kept c.arg.new.buf) c.args.start c.args.size (omega (arith, length-take {A = ℕ})))
+put_record-requires g c = omega (arith, record_room (take c.if-is_name.kept c.read-name.result.now) c.args.start c.args.size (omega (arith, length-take {A = ℕ})))
 
 pub returns : goal.returns
-returns g c = omega (arith, record_room (take c.if-is_name.kept c.arg.new.buf) c.args.start c.args.size (omega (arith, length-take {A = ℕ})))
+returns g c = omega (arith, record_room (take c.if-is_name.kept c.read-name.result.now) c.args.start c.args.size (omega (arith, length-take {A = ℕ})))

@@ -5,7 +5,7 @@ use Rattle.outline.proofs.OutlineLaws.{Outlines}
 use Rattle.outline.proofs.prepare.Given as goal
 
 abbrev pub invariant-loop-line : goal.invariant-loop-line
-invariant-loop-line l = Outlines l.s l.cursor l.seen
+invariant-loop-line l = Outlines l.s l.passed.behind l.seen l.passed.end
 
 abbrev pub decreases-loop-line : goal.decreases-loop-line
-decreases-loop-line l = suc (length l.s) - l.cursor.at
+decreases-loop-line l = suc (length l.s) - l.passed.behind.at

@@ -5,9 +5,9 @@ use mathlib.Core.List.{List}
 use Rattle.path.specs.Backward.{tail, tail_of, parts_left}
 use Rattle.path.proofs.back.Given as goal
 
-abbrev pub invariant-loop-left : goal.invariant-loop-left
-invariant-loop-left l =
+abbrev pub invariant-loop-end : goal.invariant-loop-end
+invariant-loop-end l =
     (l.left ≤ l.left-2) × ((l.up + l.left ≤ l.up-2 + l.left-2) × ((t : List ℕ) → tail_of (parts_left l.left-2 l.s) (tail l.up-2 t) ≡ tail_of (parts_left l.left l.s) (tail l.up t)))
 
-abbrev pub decreases-loop-left : goal.decreases-loop-left
-decreases-loop-left l = l.left
+abbrev pub decreases-loop-end : goal.decreases-loop-end
+decreases-loop-end l = l.left

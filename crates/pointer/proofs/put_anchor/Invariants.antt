@@ -1,10 +1,17 @@
--- `pointer::put_anchor` meets its contract. The invariant: the anchor is put up to byte b. Assumes nothing.
-use Prim.Native.Nat.{◌-◌}
-use Rattle.pointer.proofs.PutLaws.{Anchoring}
+-- `pointer::put_anchor` meets its contract. The invariant: the anchor is put up to the cursor. Assumes nothing.
+use Rattle.std.proofs.Common.{◌≡◌, ◌-◌}
+use Rattle.anchor.specs.Anchor.{slug, anchor_from, CursorWithin}
+use Rattle.put.specs.Running.{text_of}
+use Rattle.put.proofs.RunningLaws.{Left}
 use Rattle.pointer.proofs.put_anchor.Given as goal
 
-abbrev pub invariant-loop-at : goal.invariant-loop-at
-invariant-loop-at l = Anchoring l.title (record { at = l.initial.at; limit = l.limit }) l.contents l.initial.work l.work l.at l.b l.c
+abbrev pub invariant-loop-byte : goal.invariant-loop-byte
+invariant-loop-byte l =
+    record {
+      within : CursorWithin l.cursor (text_of l.initial.running l.title);
+      left : Left (slug (text_of l.initial.running l.title)) l.initial.running l.running (anchor_from l.cursor (text_of l.initial.running l.title));
+      same_reference : l.running.work.ghost_name ≡ l.initial.running.work.ghost_name;
+    }
 
-abbrev pub decreases-loop-at : goal.decreases-loop-at
-decreases-loop-at l = l.title.end - l.title.start - l.c.at
+abbrev pub decreases-loop-byte : goal.decreases-loop-byte
+decreases-loop-byte l = l.title.end - l.title.start - l.cursor.at

@@ -1,8 +1,6 @@
--- `prepare_all` meets its contract. Assumes nothing.
-use mathlib.Core.Path.{◌≡◌}
-use lib.ListN.{length}
+-- `prepare_all` meets its contract. The invariant: the members up to a place are prepared. Assumes nothing.
 use Rattle.preparation.proofs.PrepareLaws.{SoFar}
 use Rattle.preparation.proofs.prepare_all.Given as goal
 
-abbrev pub invariant-loop-i : goal.invariant-loop-i
-invariant-loop-i l = (length l.set ≡ 704) × SoFar l.contents l.work l.initial.set l.set l.i l.count
+abbrev pub invariant-loop-member : goal.invariant-loop-member
+invariant-loop-member l = SoFar l.contents l.work l.initial.members l.members l.member-index

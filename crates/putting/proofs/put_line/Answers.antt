@@ -1,24 +1,13 @@
 -- `putting::put_line` meets its contract. Assumes nothing.
-use Rattle.putting.proofs.LineLaws.{start_over, text_able, text-put}
+use Rattle.put.proofs.RunningLaws.{reads_on, reads_part, part_same, ran_then}
 use Rattle.putting.proofs.put_line.Goals as goal
-
-pub returns-in_default : goal.returns-in_default
-returns-in_default c =
-    let s = c in
-    let a = s.args in
-    start_over s.requires.0 a.host.now a.dir.now a.new.level a.new.start a.new.end (rw c.in_default.is at c.put_start.ensures)
 
 pub put_cuts-requires : goal.put_cuts-requires
 put_cuts-requires c =
-    let s = c in
-    let a = s.args in
-    let q = rw c.in-Some.is at c.put_start.ensures in
-    rw c.part_of-text.ensures (text_able s.requires.0 a.host.now a.dir.now a.new.level a.new.start a.new.end s.requires.1.1.0 s.requires.1.1.1 _ _ q)
+    let within = c.requires.new_within.1 in
+    rw c.part.ensures (reads_part (reads_on c.requires.able c.in_ok-put_start.ensures.ran) _ _ within.0 within.1)
 
-pub returns : goal.returns
-returns c =
-    let s = c in
-    let a = s.args in
-    let q = rw c.in-Some.is at c.put_start.ensures in
-    text-put s.requires.0 a.host.now a.dir.now a.new.level a.new.start a.new.end s.requires.1.1.0 s.requires.1.1.1 _ _ q _ c.put_cuts.result
-    (rw c.part_of-text.ensures at c.put_cuts.ensures)
+pub returns-clause-ran : goal.returns-clause-ran
+returns-clause-ran c =
+    let p = c.in_ok-put_start.ensures.ran in
+    ran_then _ _ c.put_cuts.result p (rw (c.part.ensures, part_same c.requires.able p _ _ c.requires.new_within.1.1) at c.put_cuts.ensures.ran)

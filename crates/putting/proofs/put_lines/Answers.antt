@@ -1,48 +1,31 @@
 -- `putting::put_lines` meets its contract. The invariant: the lines before place a are put. Assumes nothing.
-use native.Mathlib.Omega.{arith}
-use Rattle.heading.proofs.LevelLaws.{shift_kept}
-use Rattle.put.proofs.PutLaws.{reached_length, able_on, able_read}
-use Rattle.putting.proofs.LineLaws.{putting_start, line_before, text-level, text-order, text-end, line_over, lines_end, lines_on_lem}
+use mathlib.Core.Path.{refl, ◌∙◌}
+use mir.Syntax.{w32}
+use Rattle.std.proofs.lemmas.Int.{to_z-of_z}
+use Rattle.putting.proofs.LineLaws.{putting_start, text_within, line_over, lines_end, lines_on}
 use Rattle.putting.proofs.put_lines.Goals as goal
 
-pub loop-at-init : goal.loop-at-init
-loop-at-init c =
-    let s = c in
-    rw (c.begin-state.ensures, shift_kept s.args.shift s.requires.1) (putting_start s.requires.0 s.args.host.now s.args.dir.now s.args.shift)
+pub loop-line-init : goal.loop-line-init
+loop-line-init c = record {
+  putting = rw (c.begin-state.ensures, to_z-of_z w32 c.args.shift c.ranges.shift) (putting_start c.requires.able c.args.embedding.host.now c.args.embedding.dir.now c.args.shift);
+  same_reference = refl;
+}
 
-pub bytes-text-requires : goal.bytes-text-requires
-bytes-text-requires c = able_read c.requires.0 c.loop-at.invariant.reached
+pub put_line-requires-clause-new_within : goal.put_line-requires-clause-new_within
+put_line-requires-clause-new_within c = text_within c.requires.able c.loop-line.invariant.putting (rw c.bytes.ensures.text at c.in-Some.ensures)
 
-pub line_at-line-requires : goal.line_at-line-requires
-line_at-line-requires c = (omega (arith, c.loop-at.invariant.within, c.bytes-text.ensures.len), rw (shift_kept c.args.shift c.requires.1) c.requires.1)
+pub returns-in_err-put_line-clause-ran : goal.returns-in_err-put_line-clause-ran
+returns-in_err-put_line-clause-ran c =
+    let z = to_z-of_z w32 c.args.shift c.ranges.shift in
+    rw c.from_residual.ensures
+    (line_over c.requires.able (rw z at c.loop-line.invariant.putting) (rw (c.bytes.ensures.text, z) at c.in-Some.ensures) c.in_err-put_line.ensures.ran)
 
-pub put_line-requires : goal.put_line-requires
-put_line-requires c =
-    let s = c in
-    let p = c.loop-at.invariant in
-    let w = c.line_at-line in let f = rw c.bytes-text.ensures.text at w.ensures in
-    (able_on s.requires.0 p.reached, (text-level s.requires.0 p w.result f, (text-order s.requires.0 p w.result f, text-end s.requires.0 p w.result f)))
+pub returns-clause-ran : goal.returns-clause-ran
+returns-clause-ran c =
+    rw (to_z-of_z w32 c.args.shift c.ranges.shift) at (lines_end c.requires.able c.loop-line.invariant.putting (rw c.bytes.ensures.text at c.in_default.ensures))
 
-pub returns-in_err-at : goal.returns-in_err-at
-returns-in_err-at c =
-    let s = c in
-    let z = shift_kept s.args.shift s.requires.1 in
-    rw c.from_residual.ensures (line_over s.requires.0 (rw z at c.loop-at.invariant) c.line_at-line.result (rw z at (rw c.bytes-text.ensures.text at c.line_at-line.ensures)) c.in_err-at.ensures)
-
-pub shape_of-work-then-line : goal.shape_of-work-then-line
-shape_of-work-then-line c = omega (arith, reached_length c.loop-at.invariant.reached, c.put_line.auto)
-
-pub returns-then-line : goal.returns-then-line
-returns-then-line c =
-    let s = c in
-    let z = shift_kept s.args.shift s.requires.1 in
-    lines_end s.requires.0 (rw z at c.loop-at.invariant) c.line_at-line.result (rw z at (rw c.bytes-text.ensures.text at c.line_at-line.ensures)) _ _ c.in_ok-at.ensures c.if-line.true
-
-pub overflow_add-a : goal.overflow_add-a
-overflow_add-a c = let w = c.line_at-line in let f = rw c.bytes-text.ensures.text at w.ensures in omega (arith, line_before c.requires.0 c.loop-at.invariant w.result f c.if-line.false, c.requires.0.inside.0, c.well_formed)
-
-pub loop-at-smaller : goal.loop-at-smaller
-loop-at-smaller c = let w = c.line_at-line in let f = rw c.bytes-text.ensures.text at w.ensures in omega (arith, f.order, line_before c.requires.0 c.loop-at.invariant w.result f c.if-line.false)
-
-pub loop-at-preserved : goal.loop-at-preserved
-loop-at-preserved c = lines_on_lem c.requires.0 c.loop-at.invariant c.line_at-line.result (rw c.bytes-text.ensures.text at c.line_at-line.ensures) _ _ c.in_ok-at.ensures c.if-line.false
+pub loop-line-preserved : goal.loop-line-preserved
+loop-line-preserved c = record {
+  putting = lines_on c.requires.able c.loop-line.invariant.putting (rw c.bytes.ensures.text at c.in-Some.ensures) c.in_ok-put_line.ensures.ran;
+  same_reference = c.in_ok-put_line.ensures.same_reference ∙ c.loop-line.invariant.same_reference;
+}

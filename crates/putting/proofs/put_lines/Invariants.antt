@@ -1,10 +1,14 @@
 -- `putting::put_lines` meets its contract. The invariant: the lines before place a are put. Assumes nothing.
-use Prim.Native.Nat.{◌-◌}
+use Rattle.std.proofs.Common.{◌≡◌, ◌+◌, ◌-◌}
 use Rattle.putting.proofs.LineLaws.{Putting}
 use Rattle.putting.proofs.put_lines.Given as goal
 
-abbrev pub invariant-loop-at : goal.invariant-loop-at
-invariant-loop-at l = Putting l.host l.dir l.shift l.source (record { at = l.initial.at; limit = l.limit }) l.contents l.initial.work l.work l.at l.a l.state
+abbrev pub invariant-loop-line : goal.invariant-loop-line
+invariant-loop-line l =
+    record {
+      putting : Putting l.embedding.host.now l.embedding.dir.now l.shift l.source l.initial.running l.running l.a l.state;
+      same_reference : l.running.work.ghost_name ≡ l.initial.running.work.ghost_name;
+    }
 
-abbrev pub decreases-loop-at : goal.decreases-loop-at
-decreases-loop-at l = l.source.end - l.source.start - l.a
+abbrev pub decreases-loop-line : goal.decreases-loop-line
+decreases-loop-line l = l.source.end - l.source.start + 1 - l.a

@@ -3,4 +3,4 @@ use Rattle.shared.proofs.SharedLaws.{Compared}
 use Rattle.shared.proofs.compare.Given as goal
 
 abbrev pub invariant-loop-i : goal.invariant-loop-i
-invariant-loop-i l = Compared l.index l.contents l.set l.count l.table l.stop l.initial.work l.work l.i
+invariant-loop-i l = Compared l.index l.contents l.members l.table l.stop l.initial.work l.work l.i

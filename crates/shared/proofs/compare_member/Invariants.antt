@@ -6,7 +6,7 @@ use Rattle.shared.proofs.CompareLaws.{Walked}
 use Rattle.shared.proofs.compare_member.Given as goal
 
 abbrev pub invariant-loop-found : goal.invariant-loop-found
-invariant-loop-found l = Walked l.index l.contents l.set l.i l.table l.stop l.initial.work l.member.file l.source l.work l.cursor
+invariant-loop-found l = Walked l.index l.contents l.before l.member l.table l.stop l.initial.work l.source l.work l.cursor
 
 abbrev pub decreases-loop-found : goal.decreases-loop-found
 decreases-loop-found l = suc (length (source_text l.source l.contents l.initial.work)) - l.cursor.at

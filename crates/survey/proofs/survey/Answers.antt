@@ -16,7 +16,7 @@ returns-in-Some-refusal_at c =
     let s = c.args.s.now in
     let l = c.loop-line in
     λ name.
-    survey_wrong s l.cursor.at l.cursor.line _ _ _ _ c.args.file l.any l.state _ l.invariant.1.1 c.in-Some.ensures c.kind_at-kind.ensures (sym c.refusal_at.ensures ∙ c.in-Some-refusal_at.is)
+    survey_wrong s l.cursor.at l.cursor.line _ _ _ _ c.args.file l.any l.state _ l.invariant.1.1 c.in-Some.ensures (rw (c.within.ensures.0, c.within.ensures.1) at c.kind_at-kind.ensures) (sym c.refusal_at.ensures ∙ c.in-Some-refusal_at.is)
     ∙ survey_scanned c.args.file name s
 
 pub loop-line-preserved : goal.loop-line-preserved
@@ -29,7 +29,7 @@ loop-line-preserved c =
       | in-Closes w ↦ w.matches-is ∙ ap closes (sym w.in-Closes.is)
       | in_default-matches w ↦ w.matches-is ∙ sym (closes-not _ (λ q. w.in_default-matches.not-Closes q))
     ] in
-    let turn = survey_on s l.cursor.at l.cursor.line _ _ _ _ c.args.file l.any l.state _ l.invariant.1.1 h c.kind_at-kind.ensures (sym c.refusal_at.ensures ∙ c.in_default-refusal_at.is) any c.after-state.ensures in
+    let turn = survey_on s l.cursor.at l.cursor.line _ _ _ _ c.args.file l.any l.state _ l.invariant.1.1 h (rw (c.within.ensures.0, c.within.ensures.1) at c.kind_at-kind.ensures) (sym c.refusal_at.ensures ∙ c.in_default-refusal_at.is) any c.after-state.ensures in
     (omega arith, (omega arith, turn))
 
 pub returns : goal.returns

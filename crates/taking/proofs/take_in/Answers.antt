@@ -3,7 +3,6 @@ use Rattle.std.specs.Prelude.{Ok}
 use Rattle.std.proofs.lemmas.Result.{err_from_is_err_and}
 use native.Mathlib.Omega.{arith}
 use mathlib.Core.Path.{◌≡◌, ◌∙◌, ap}
-use Rattle.text.specs.Bytes.{part}
 use Rattle.answer.specs.declared.Answer.TheVariants.{Accepted}
 use Rattle.embedding.specs.Embed.{embed_told}
 use Rattle.filling.specs.Filling.{with_files}
@@ -17,7 +16,7 @@ returns-in_err-length-in-Accepted-clause-work_after c =
     let k = c.drop_markers-kept in
     let q : a.got ≡ Ok (Accepted c.in-Accepted.length c.in-Accepted.files) = c.in_ok-length.was ∙ ap Ok c.in-Accepted.is in
     let l = lent_length a.work.now a.at.limit (omega arith) in
-    let g = embed_told a.host.now (part a.row.name a.row.end a.index.now) a.at.target a.at.number in
+    let g = embed_told a.host.now a.name.now a.at.target a.at.number in
     let r = c.from_residual-in_err-length-in-Accepted in
     let p = err_from_is_err_and r.result r.ensures.1 in
     rw (p.1, p.2, q)
@@ -31,7 +30,7 @@ returns-in_ok-length-in-Accepted-clause-work_after c =
     let k = c.drop_markers-kept in
     let q : a.got ≡ Ok (Accepted c.in-Accepted.length c.in-Accepted.files) = c.in_ok-length.was ∙ ap Ok c.in-Accepted.is in
     let l = lent_length a.work.now a.at.limit (omega arith) in
-    let g = embed_told a.host.now (part a.row.name a.row.end a.index.now) a.at.target a.at.number in
+    let g = embed_told a.host.now a.name.now a.at.target a.at.number in
     rw q
     (ap (with_files c.in-Accepted.files)
     (c.in_ok-length-in-Accepted.ensures.work_after

@@ -6,4 +6,4 @@ use Rattle.index.proofs.ReadLaws.{Upto}
 use Rattle.index.proofs.rows.read.Given as goal
 
 abbrev pub invariant-loop-line : goal.invariant-loop-line
-invariant-loop-line l = record { read : Upto l.index l.rows l.n l.at; left : l.line-iterator ≡ ended (drop l.at l.index) }
+invariant-loop-line l = record { read : Upto l.index l.rows.items l.n l.at; left : l.line-iterator ≡ ended (drop l.at l.index) }

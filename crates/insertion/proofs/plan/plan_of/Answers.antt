@@ -2,7 +2,9 @@
 use Rattle.std.specs.Prelude.{Some, Ok}
 use mathlib.Core.Path.{sym, subst}
 use lib.IntN.{ℤ}
-use Rattle.heading.proofs.LevelLaws.{shift_kept}
+use mir.Syntax.{w32}
+use Rattle.std.proofs.Common.{rules}
+use Rattle.std.proofs.lemmas.Int.{to_z-of_z}
 use Rattle.insertion.specs.Plans.{PlanOf}
 use Rattle.insertion.proofs.PlanLaws.{plan_nothing, plan_past, plan_lines}
 use Rattle.insertion.proofs.plan.plan_of.Goals as goal
@@ -14,7 +16,7 @@ pub returns-in-Ok : goal.returns-in-Ok
 returns-in-Ok c =
     let z : ℤ = c.in-Ok.shift in
     let h = rw c.in-Ok.is at c.shift_of.ensures in
-    subst (λ (x : ℤ). PlanOf c.args.s.now c.args.target (Ok (Some (record { start = c.blank_ends-ends.result.start; end = c.blank_ends-ends.result.end; shift = x })))) (sym (shift_kept z h.1.0))
+    subst (λ (x : ℤ). PlanOf c.args.s.now c.args.target (Ok (Some (record { start = c.blank_ends-ends.result.start; end = c.blank_ends-ends.result.end; shift = x })))) (sym (to_z-of_z w32 z (search rules)))
     (plan_lines c.blank_ends-ends.ensures c.args.target c.if-start-end.false z h)
 
 pub returns-in-Err : goal.returns-in-Err

@@ -2,17 +2,16 @@
 use native.Mathlib.Omega.{arith}
 use mathlib.Core.Path.{◌≡◌, sym, ◌∙◌}
 use Rattle.text.specs.Pattern.{bytes, contains}
-use Rattle.text.proofs.BytesLaws.{rest}
 use Rattle.text.proofs.PatternLaws.{contains_longer}
 use Rattle.marker.specs.Marker.{fragment_kind, OPEN, OPEN-FRAGMENT}
 use Rattle.marker.proofs.line.fragment_kind.Goals.{After-contains}
 use Rattle.marker.proofs.line.fragment_kind.Goals as goal
 
 -- the line holds a fragment marker where one stands from its first marker on
-sought : (c : After-contains) → contains OPEN-FRAGMENT c.args.line.now ≡ c.contains.result
+sought : (c : After-contains) → contains OPEN-FRAGMENT c.args.line.bytes.now ≡ c.contains.result
 sought c =
-    contains_longer OPEN (bytes "fragment:") c.args.line.now c.args.i c.requires
-    ∙ sym (rw rest at c.contains.ensures)
+    contains_longer OPEN (bytes "fragment:") c.args.line.bytes.now c.args.i c.requires
+    ∙ sym (rw c.from.ensures.1 at c.contains.ensures)
 
 pub returns-in-None : goal.returns-in-None
 unfolding fragment_kind

@@ -5,8 +5,8 @@ use Rattle.member.proofs.lines.pass.Goals as goal
 pub returns-then-state : goal.returns-then-state
 returns-then-state c = passed_none c.args.from c.args.end
 
-pub loop-at-init : goal.loop-at-init
-loop-at-init c = passing_none c.requires c.args.end
+pub loop-stop-init : goal.loop-stop-init
+loop-stop-init c = passing_none c.requires c.args.end
 
-pub loop-at-preserved : goal.loop-at-preserved
-loop-at-preserved c = passing_more c.if-state.false c.loop-at.invariant c.in-Some.ensures c.last_end-last.ensures
+pub loop-stop-preserved : goal.loop-stop-preserved
+loop-stop-preserved c = passing_more c.if-state.false c.loop-stop.invariant c.in-Some.ensures c.last_end-last.ensures

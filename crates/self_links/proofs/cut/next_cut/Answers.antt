@@ -6,7 +6,7 @@ use Rattle.self_links.proofs.CutLaws.{passed_start, passed_none, passed_on, pass
 use Rattle.self_links.proofs.cut.next_cut.Goals as goal
 
 pub loop-link-init : goal.loop-link-init
-loop-link-init c = passed_start c.args.host.now c.args.dir.now c.args.line.now c.args.from c.requires
+loop-link-init c = passed_start c.args.embedding.host.now c.args.embedding.dir.now c.args.line.now c.args.from c.requires
 
 pub next_link-requires : goal.next_link-requires
 next_link-requires c = c.loop-link.invariant.within

@@ -5,7 +5,7 @@ use Rattle.self_links.proofs.CutLaws.{Passed}
 use Rattle.self_links.proofs.cut.next_cut.Given as goal
 
 abbrev pub invariant-loop-link : goal.invariant-loop-link
-invariant-loop-link l = Passed l.host l.dir l.line l.from l.i
+invariant-loop-link l = Passed l.embedding.host.now l.embedding.dir.now l.line l.from l.i
 
 abbrev pub decreases-loop-link : goal.decreases-loop-link
 decreases-loop-link l = length l.line - l.i

@@ -8,7 +8,7 @@ use Rattle.station.proofs.line.line_at.Goals as goal
 pub loop-passed-preserved : goal.loop-passed-preserved
 loop-passed-preserved c =
     let p = c.piece-line.ensures in
-    let e : c.args.number + 1 - (c.loop-passed._passed + 1) ≡ c.args.number + 1 - c.loop-passed._passed - 1 = omega arith in (
+    let e : c.args.n + 1 - (c.loop-passed._passed + 1) ≡ c.args.n + 1 - c.loop-passed._passed - 1 = omega arith in (
       piece_more _ _ _ p.from_le_end.1.1 c.if-line.false p.from_le_end.1.0,
       rw e (line_on _ c.loop-passed.invariant.1 (rw c.if-line.false at p.s_value) (omega arith)),
     )

@@ -7,4 +7,4 @@ use Rattle.station.specs.Station.{nth_line}
 use Rattle.station.proofs.line.line_at.Given as goal
 
 abbrev pub invariant-loop-passed : goal.invariant-loop-passed
-invariant-loop-passed l = (l.start ≤ length l.s) × (nth_line (l.number + 1 - l._passed) (pieces (drop l.start l.s)) ≡ nth_line l.number (pieces l.s))
+invariant-loop-passed l = (l.start ≤ length l.s) × (nth_line (l.n + 1 - l._passed) (pieces (drop l.start l.s)) ≡ nth_line l.n (pieces l.s))

@@ -1,4 +1,5 @@
 -- `ascii::wide_line` meets its contract: where a byte is 80 hex or above, its line is 1 and the LFs before it. Assumes nothing.
+use Rattle.std.specs.Prelude.{Some}
 use Prim.Native.Nat.{ℕ, ◌+◌, ◌<◌}
 use mathlib.Core.Path.{sym, ap, ◌∙◌}
 use lib.ListN.{length, take}
@@ -28,4 +29,4 @@ returns c =
     let s = c.args.s.now in
     let p = c.find_wide-p in
     let h : first is_wide s < length s = omega arith in
-    ap (λ (n : ℕ). 1 + n) (c.count_byte.ensures.0 ∙ ap (λ (n : ℕ). count (is LF) (take n s)) p.ensures.0) ∙ sym (wide_some 1 s h)
+    ap (λ (n : ℕ). Some (1 + n)) (c.count_byte.ensures.0 ∙ ap (λ (n : ℕ). count (is LF) (take n s)) p.ensures.0) ∙ sym (wide_some 1 s h)

@@ -1,8 +1,0 @@
--- `event_log::word::add` meets its contract. Assumes nothing.
-use Rattle.event_log.proofs.word.add.Goals as goal
-
-pub returns-in-Some : goal.returns-in-Some
-returns-in-Some c = rw c.in-Some.is
-
-pub returns-in-None : goal.returns-in-None
-returns-in-None c = rw c.in-None.is
