@@ -14,6 +14,7 @@ ghost use Rattle.filling.specs.Filling.{read_filled, FilledWithin, read_text, Te
 
 use answer::{Answer, Place, Refusal};
 use filling::Filled;
+use index::records::Index;
 use insertion::Insertion;
 use opening::{Chain, Filling, Opened};
 use regions::host;
@@ -78,6 +79,10 @@ pub fn fill_regions(
     let Surveyed::Regions = survey::survey(s, at.number)? else {
         return Ok(Answer::NoRegion);
     };
+    let index = Index {
+        text: chain.files.index,
+        rows: chain.files.rows,
+    };
     let mut cursor = host::start();
     let mut text = Filled {
         length: 0,
@@ -88,7 +93,17 @@ pub fn fill_regions(
             used: text.files,
             ..at
         };
-        let opened = opening::open_region(chain, s, cursor.from, region, here, text.length, work)?;
+        let opened = opening::open_region(
+            index,
+            chain.top,
+            chain.marks,
+            s,
+            cursor.from,
+            region,
+            here,
+            text.length,
+            work,
+        )?;
         text = embed(chain, name, region, opened, here, work)?;
         cursor = behind;
     }

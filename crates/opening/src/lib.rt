@@ -1,16 +1,17 @@
 #![tactic(auto)]
 
 // What stands before a region's file: the host's bytes through the opener's line, and the file that the region names.
-ghost use Rattle.std.specs.Prelude.{◌≡◌, ◌++◌, ◌≤◌, length, take};
+ghost use Rattle.std.specs.Prelude.{◌≡◌, List, ℕ, ◌++◌, ◌≤◌, length, take};
 ghost use Rattle.chains.specs.Chains.{next_named};
 ghost use Rattle.answer.specs.Answer.{place};
 ghost use Rattle.text.specs.Bytes.{part};
-ghost use Rattle.index.specs.FileSets.{files_of};
+ghost use Rattle.index.specs.Rows.{files_in};
 ghost use Rattle.insertion.specs.Insertion.{read_inserted, Within, tested};
 ghost use Rattle.opening.specs.Opening.{named_of, read_opened, OpenedWithin, entry_of, CanOpen};
 
 use answer::{Place, Refusal};
 use index::file_set::FileSet;
+use index::records::Index;
 use regions::host::Opening;
 use text::pattern;
 
@@ -40,14 +41,21 @@ pub struct Opened {
 
 // The file that a name leads to: 13, 14, then 15.
 #[tactic(auto, using(crate::proofs::FilesLaws::leads))]
-fn named_file(chain: Chain, name: &[u8], opener: Place, at: Filling) -> Result<usize, Refusal>
-    ensures { result ≡ named_of at.allowance at.used opener (next_named (files_of chain.entry.files) chain.entry.top.now chain.entry.marks opener name.now) }
+fn named_file(
+    index: Index,
+    top: &[u8],
+    marks: [bool; 64],
+    name: &[u8],
+    opener: Place,
+    at: Filling,
+) -> Result<usize, Refusal>
+    ensures { (contents : List ℕ) → result ≡ named_of at.allowance at.used opener (next_named (files_in index.entry.text.now contents index.entry.rows.now) top.now marks opener name.now) }
 {
-    if pattern::equals(name, chain.top) {
+    if pattern::equals(name, top) {
         return Err(Refusal::OnChain(opener));
     }
-    let file = chain.files.find(name).ok_or(Refusal::Absent(opener))?;
-    if chain.marks[file] {
+    let file = index.find(name).ok_or(Refusal::Absent(opener))?;
+    if marks[file] {
         return Err(Refusal::OnChain(opener));
     }
     if at.allowance <= at.used {
@@ -74,9 +82,11 @@ pub fn put_block(
     Ok(buffer::copy(block, work, len))
 }
 
-// What comes before a region's file: the host's bytes through the opener's line, with 17; 12; the file, with 13, 14 and 15.
+// What comes before a region's file: the host's bytes through the opener's line, with 17; 12; the file, with 13, 14 and 15. No file is read, so this is so for all contents.
 pub fn open_region(
-    chain: Chain,
+    index: Index,
+    top: &[u8],
+    marks: [bool; 64],
     s: &[u8],
     from: usize,
     o: Opening,
@@ -85,9 +95,9 @@ pub fn open_region(
     work: &mut [u8],
 ) -> Result<Opened, Refusal>
     requires { CanOpen (length s.now) from o len at.limit (length work.old) }
-    ensures opened { read_opened result work.new ≡ entry_of at.limit (place at.number o.line) o.headless (take len work.old ++ part from o.end s.now)
+    ensures opened { (contents : List ℕ) → read_opened result work.new ≡ entry_of at.limit (place at.number o.line) o.headless (take len work.old ++ part from o.end s.now)
         (named_of at.allowance at.used (place at.number o.line)
-        (next_named (files_of chain.entry.files) chain.entry.top.now chain.entry.marks (place at.number o.line) (part o.path.start o.path.end s.now))) }
+        (next_named (files_in index.entry.text.now contents index.entry.rows.now) top.now marks (place at.number o.line) (part o.path.start o.path.end s.now))) }
     ensures opened_within { OpenedWithin result at.limit }
 {
     let opener = Place {
@@ -99,6 +109,6 @@ pub fn open_region(
         return Err(Refusal::PeerWithoutHeading(opener));
     }
     let name = &s[o.path.start..o.path.end];
-    let file = named_file(chain, name, opener, at)?;
+    let file = named_file(index, top, marks, name, opener, at)?;
     Ok(Opened { file, length })
 }

@@ -82,7 +82,7 @@ fill_regions-returns-in_err-opened-clause-work_after t c =
     let r = c.from_residual-in_err-opened in
     let p = err_from_is_err_and r.result r.ensures.1 in
     rw (p.1, p.2)
-    (whole_barred (files_of a.chain.files) a.chain.top.now a.chain.marks a.s.now a.at x.files (take x.length c.loop-region.work) a.name.now l.running c.in-Some.ensures _ c.in_err-opened.ensures.opened ∙ l.comes)
+    (whole_barred (files_of a.chain.files) a.chain.top.now a.chain.marks a.s.now a.at x.files (take x.length c.loop-region.work) a.name.now l.running c.in-Some.ensures _ (c.in_err-opened.ensures.opened a.chain.files.contents.now) ∙ l.comes)
 
 pub fill_regions-embed-requires : goal.fill_regions-embed-requires
 fill_regions-embed-requires t c =
@@ -91,7 +91,7 @@ fill_regions-embed-requires t c =
     let l = c.loop-region.invariant in
     let o = c.in_ok-opened in (
       omega (arith, c.decreases),
-      can_embed (files_of a.chain.files) a.chain.top.now a.chain.marks a.s.now a.at x.files (take x.length c.loop-region.work) c.in-Some.ensures _ o.opened.file o.opened.length _ o.ensures.opened o.ensures.opened_within (omega (arith, l.kept, c.requires)),
+      can_embed (files_of a.chain.files) a.chain.top.now a.chain.marks a.s.now a.at x.files (take x.length c.loop-region.work) c.in-Some.ensures _ o.opened.file o.opened.length _ (o.ensures.opened a.chain.files.contents.now) o.ensures.opened_within (omega (arith, l.kept, c.requires)),
     )
 
 pub fill_regions-returns-in_err-text-clause-work_after : goal.fill_regions-returns-in_err-text-clause-work_after
@@ -104,7 +104,7 @@ fill_regions-returns-in_err-text-clause-work_after t c =
     let p = err_from_is_err_and r.result r.ensures.1 in
     rw (p.1, p.2)
     (loop_over (files_of a.chain.files) a.chain.top.now a.chain.marks a.name.now a.s.now a.at c.in-Some.behind _ l.comes
-    (whole_on (files_of a.chain.files) a.chain.top.now a.chain.marks a.s.now a.at x.files (take x.length c.loop-region.work) a.name.now l.running c.in-Some.ensures _ o.opened.file o.ensures.opened)
+    (whole_on (files_of a.chain.files) a.chain.top.now a.chain.marks a.s.now a.at x.files (take x.length c.loop-region.work) a.name.now l.running c.in-Some.ensures _ o.opened.file (o.ensures.opened a.chain.files.contents.now))
     c.in_err-text.ensures.work_after)
 
 pub fill_regions-loop-region-preserved : goal.fill_regions-loop-region-preserved
@@ -114,7 +114,7 @@ fill_regions-loop-region-preserved t c =
     let l = c.loop-region.invariant in
     let o = c.in_ok-opened in
     loop_on (files_of a.chain.files) a.chain.top.now a.chain.marks a.name.now a.s.now a.at c.in-Some.behind _ l.comes
-    (whole_on (files_of a.chain.files) a.chain.top.now a.chain.marks a.s.now a.at x.files (take x.length c.loop-region.work) a.name.now l.running c.in-Some.ensures _ o.opened.file o.ensures.opened)
+    (whole_on (files_of a.chain.files) a.chain.top.now a.chain.marks a.s.now a.at x.files (take x.length c.loop-region.work) a.name.now l.running c.in-Some.ensures _ o.opened.file (o.ensures.opened a.chain.files.contents.now))
     (omega (arith, l.kept)) c.in-Some.ensures.next c.in_ok-text.ensures.text_within c.in_ok-text.ensures.work_after
 
 pub fill_regions-returns-clause-work_after : goal.fill_regions-returns-clause-work_after
