@@ -33,7 +33,7 @@ fn assemble_listed(
     ensures work_after { read_filled result work.new ≡ outcome (judge 0 limit 0 (assemble_of url.now (members_of (files_of files.entry) lines.now))) }
     ensures fits { Fits result limit limit }
 {
-    let mut members = listed::members_of(files, lines);
+    let mut members = listed::members_of(files.rows, lines);
     let table = limit;
     let length = assembly::assemble(
         files.index,

@@ -61,6 +61,6 @@ pub fn assemble_listed(
     ensures work_after { read_filled result work.new ≡ outcome (judge allowance limit 0 (book (files_of files.entry) lines.now url.now)) }
     ensures fits { Fits result limit limit }
 {
-    let mut members = listed::members_of(files, lines);
+    let mut members = listed::members_of(files.rows, lines);
     assemble_made(files, url, limit, allowance, members.as_mut_slice(), work)
 }

@@ -7,14 +7,16 @@ ghost use Rattle.text.specs.Bytes.{part};
 
 pub mod decimal;
 
-// Copies s to a place of a buffer, and answers the place after it.
+// Copies s to a place of a buffer, and answers the place after it. By place: `copy_from_slice` calls the C library's `memmove`, and
+// the library for C does without.
 pub fn copy(s: &[u8], out: &mut [u8], at: usize) -> usize
     requires { at + length s.now ≤ length out.old }
     ensures { (out.new ≡ sets out.old at s.now) × (result ≡ at + length s.now) }
 {
-    let end = at + s.len();
-    out[at..end].copy_from_slice(s);
-    end
+    for j in 0..s.len() {
+        out[at + j] = s[j];
+    }
+    at + s.len()
 }
 
 // Copies the bytes of a buffer from one place up to another down to an earlier place, and answers the place after them.

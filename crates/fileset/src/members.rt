@@ -20,9 +20,11 @@ pub fn line_count(list: &[u8]) -> usize
 pub fn list_lines(list: &[u8]) -> Option<usize>
     ensures { result ≡ list_lines list.now }
 {
+    if !list.is_empty() && !pattern::ends_with(list, b"\n") {
+        return None;
+    }
     let count = line_count(list);
-    let ended = list.is_empty() || pattern::ends_with(list, b"\n");
-    (ended && count <= 64).then_some(count)
+    (count <= 64).then_some(count)
 }
 
 // The record of each line, counted from 0.

@@ -1,6 +1,7 @@
 // Levels: the shallowest, the shift, and the line that a heading becomes.
 ghost use Rattle.std.specs.Prelude.{◌≡◌, ◌+◌, ◌≤◌, pos, ◌+ℤ◌, length, None};
 ghost use Rattle.std.proofs.lemmas.List.Edits.{sets};
+ghost use Rattle.std.specs.Int.Signed.{mag};
 ghost use Rattle.text.specs.Lines.{pieces};
 ghost use Rattle.heading.specs.Walk.{walk_begin, kinds_from};
 ghost use Rattle.heading.specs.Level.{least as least_of, shallower as shallower_of, shallowest_of, shift_of, moved_to, heading_line, IsLevel};
@@ -40,7 +41,7 @@ pub fn shallowest(s: &[u8]) -> Option<usize>
 // The shift that takes the shallowest heading to the target.
 pub fn shift_to(target: usize, found: Option<usize>) -> i32
     requires { (target ≤ 7) × IsLevel found }
-    ensures { result ≡ shift_of target found }
+    ensures { (result ≡ shift_of target found) × (mag result ≤ 7) }
 {
     match found {
         Some(n) => target as i32 - n as i32,

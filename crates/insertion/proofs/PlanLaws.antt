@@ -70,10 +70,10 @@ module _ {s : List ℕ} {a e : ℕ} (ends : AreEnds s a e) (target : ℕ) where
 
     pub plan_lines : (z : ℤ) → ShiftTo (part a e s) target (Ok z) → PlanOf s target (Ok (Some (record { start = a; end = e; shift = z })))
     plan_lines z h = (
-      (ends.order, ends.within),
+      (ends.order, (ends.within, h.1.0)),
       λ host name d.
           text-is host name d
-          ∙ embed_good host name target d (pieces (part a e s)) h.1
+          ∙ embed_good host name target d (pieces (part a e s)) h.1.1
           ∙ ap (λ (y : ℤ). good (map (linked_line host (parent_dir name) y) (told_from walk_begin (pieces (part a e s))))) (sym h.0),
     )
 

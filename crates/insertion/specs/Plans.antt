@@ -1,5 +1,6 @@
 -- What comes of a text before any of its lines is put. Nothing here is document 01's: an inner function promises it.
 use Rattle.std.specs.Prelude.{ℕ, ◌≤◌, ◌≡◌, List, [], map, length, Option, Some, None, Result, Ok, Err}
+use Rattle.std.specs.Int.Signed.{mag}
 use Rattle.insertion.specs.declared.plan.Plan.{Plan}
 use Rattle.answer.specs.Answer.{place}
 use Rattle.answer.specs.declared.Refusal.{Refusal}
@@ -22,5 +23,5 @@ abbrev pub PlanOf : List ℕ → ℕ → Result (Option Plan) ℕ → Type 0
 PlanOf s target (Ok None) = (host name : List ℕ) (d : ℕ) → embed_text host name target d s ≡ good []
 PlanOf s target (Err n) = (host name : List ℕ) (d : ℕ) → (xs : List Refusal) × (embed_text host name target d s ≡ flawed (HeadingLevel (place d n)) xs)
 PlanOf s target (Ok (Some p)) =
-    ((p.start ≤ p.end) × (p.end ≤ length s))
+    ((p.start ≤ p.end) × ((p.end ≤ length s) × (mag p.shift ≤ 7)))
     × ((host name : List ℕ) (d : ℕ) → embed_text host name target d s ≡ good (map (linked_line host (parent_dir name) p.shift) (told_from walk_begin (pieces (part p.start p.end s)))))

@@ -35,7 +35,7 @@ use Rattle.joining.proofs.RuleLaws.{join_rule, join-some}
 module _ (titles : List ℕ → Option (List ℕ)) (url s : List ℕ) (m : Prepared) (kept : m.lines ≡ kept_lines s) where
   pub shifted_good : (z : ℤ) → ShiftBelow s (Ok z) → emit titles url m ≡ good (emitted_lines (rewrite_target titles url (parent_dir m.name)) z s)
   shifted_good z h =
-      emit_good titles url m s kept h.1 ∙ ap (λ (y : ℤ). good (emitted_lines (rewrite_target titles url (parent_dir m.name)) y s)) (sym h.0)
+      emit_good titles url m s kept h.1.1 ∙ ap (λ (y : ℤ). good (emitted_lines (rewrite_target titles url (parent_dir m.name)) y s)) (sym h.0)
 
   pub shifted_past : (n : ℕ) → ShiftBelow s (Err n) → (xs : List Refusal) × (emit titles url m ≡ flawed (HeadingLevel (place m.file n)) xs)
   shifted_past n h =

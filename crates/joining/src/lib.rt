@@ -2,7 +2,7 @@
 
 // A member behind the text so far, with what joins it: 16, then its lines, then 17.
 ghost use Rattle.std.specs.Prelude.{◌++◌, ◌≡◌, ◌≤◌, Contains};
-ghost use Rattle.put.specs.Running.{Ran, text_of};
+ghost use Rattle.put.specs.Running.{Kept, Ran, text_of};
 ghost use Rattle.members.specs.Members.{text_source};
 ghost use Rattle.emission.specs.Emission.{emitted_text};
 ghost use Rattle.joining.specs.Joining.{rule_before, emit_of, target_of, prepared_of, put_answer, Emits, AddedBehind};
@@ -47,6 +47,7 @@ pub fn emit(
     requires can { Emits running.old assembly }
     requires among { Contains assembly.members.now member × (running.old.at ≤ running.old.limit) }
     ensures same_reference { running.new.work.ghost_name ≡ running.old.work.ghost_name }
+    ensures kept { Kept running.old running.new }
     ensures added { AddedBehind (emit_of running.old assembly.entry) (prepared_of running.old assembly.entry member) i running.old running.new result }
 {
     let text = running.bytes(member.text());

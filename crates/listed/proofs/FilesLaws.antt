@@ -24,7 +24,7 @@ use Rattle.chains.proofs.GrowLaws.{find-within}
 use Rattle.members.specs.Members.{name_of, file_in, all_files, Lies, Agree, AllLie}
 use Rattle.members.specs.declared.Member.{Member}
 use Rattle.members.proofs.MembersLaws.{map-each}
-use Rattle.listed.specs.Files.{line_member, line_members, AreListed}
+use Rattle.listed.specs.Files.{line_member, line_members, HaveRows, AreListed}
 
 -- a name's record is one of them, and there is one for each name
 found_below : (l : List ℕ) (rs : List Record) (k : ℕ) → find_record l rs ≡ Some k → k < length rs
@@ -60,6 +60,13 @@ pub ruleset listing = (few_members, map_more, take_all, rows-length)
 module _ (files : FileSet) {lines : List ℕ} (l : AreListed (length (files_of files)) lines) where
   below : All (λ k. k < length files.rows.now) lines
   below i d h = omega (arith, l.listed i d h, rows-length files.index.now files.contents.now files.rows.now)
+
+  pub have_rows : length files.contents.now ≤ 0xFFFFFFFFFFFFFFFF → HaveRows files.rows.now lines
+  have_rows fits = record {
+    few = l.few;
+    listed = λ i d h. omega (arith, below i d h, files.few);
+    ends = λ i d h. omega (arith, files.within (get_or lines i d) zero_row (below i d h));
+  }
 
   pub lines-stand : All (λ m. m.source.work ≡ false) (line_members files.rows.now lines)
   lines-stand = All-map (λ m. m.source.work ≡ false) (line_member files.rows.now) lines (λ i d h. refl)

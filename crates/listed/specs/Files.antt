@@ -24,6 +24,12 @@ line_member rows k = member_of k (get_or rows k zero_row)
 abbrev pub line_members : List Row → List ℕ → List Member
 line_members rows lines = map (line_member rows) lines
 
+-- lines name rows, and the files of these end at a number of 64 bits
+pub record HaveRows (rows : List Row) (lines : List ℕ) : Type 0 where
+  pub few : length lines ≤ 64
+  pub listed : All (λ k. k < 64) lines
+  pub ends : All (λ k. (get_or rows k zero_row).start + (get_or rows k zero_row).size ≤ 0xFFFFFFFFFFFFFFFF) lines
+
 -- the lines name some of n files
 pub record AreListed (n : ℕ) (lines : List ℕ) : Type 0 where
   pub few : length lines ≤ 64

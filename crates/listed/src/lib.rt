@@ -1,11 +1,10 @@
 #![tactic(auto)]
 
 // The members that list lines name, each as it stands in the contents.
-ghost use Rattle.std.specs.Prelude.{◌≡◌, ◌+◌, ◌≤◌, ◌<◌, length};
-ghost use Rattle.index.specs.FileSets.{files_of};
-ghost use Rattle.listed.specs.Files.{no_outline, member_of, line_members, AreListed};
+ghost use Rattle.std.specs.Prelude.{◌≡◌, ◌+◌, ◌≤◌, ◌<◌, get_or};
+ghost use Rattle.index.specs.Rows.{zero_row};
+ghost use Rattle.listed.specs.Files.{no_outline, member_of, line_members, HaveRows};
 
-use index::file_set::FileSet;
 use index::rows::Row;
 use members::{Member, Members};
 use outline::Outline;
@@ -39,15 +38,22 @@ fn member_of(k: usize, row: Row) -> Member
     }
 }
 
+// A row; that of no record where there is none.
+fn row_at(rows: &[Row], k: usize) -> Row
+    ensures { result ≡ get_or rows.now k zero_row }
+{
+    rows.get(k).copied().unwrap_or_default()
+}
+
 // The member of each list line, in the list's order.
 #[tactic(auto, using(crate::proofs::FilesLaws::listing))]
-pub fn members_of(files: FileSet, lines: &[usize]) -> Members
-    requires { AreListed (length (files_of files)) lines.now }
-    ensures { result.items ≡ line_members files.entry.rows.now lines.now }
+pub fn members_of(rows: &[Row], lines: &[usize]) -> Members
+    requires { HaveRows rows.now lines.now }
+    ensures { result.items ≡ line_members rows.now lines.now }
 {
     let mut members = Members::new();
     for &k in lines {
-        members.push(member_of(k, files.rows[k]));
+        members.push(member_of(k, row_at(rows, k)));
     }
     members
 }

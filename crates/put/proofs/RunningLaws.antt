@@ -11,7 +11,7 @@ use Rattle.text.specs.Bytes.{part}
 use Rattle.text.proofs.BytesLaws.{part_full}
 use Rattle.buffer.proofs.BufferLaws.{sets_append}
 use Rattle.put.specs.Put.{Inside, part_of}
-use Rattle.put.specs.Running.{Fits, Reads, text_of, Grown, Over, Ran}
+use Rattle.put.specs.Running.{Fits, Reads, text_of, Kept, Grown, Over, Ran}
 use Rattle.put.specs.declared.Source.{Source}
 use Rattle.put.specs.declared.running.RunningText.{RunningText}
 use Rattle.put.proofs.PutLaws.{drop_behind, source-part, length_inside, inside-any, inside-part, source-same}
@@ -43,6 +43,10 @@ ran_then {a} b new None p q = record {
   long = q.long ∙ p.long;
   over = omega (arith, length-append a b, p.place, p.limit, q.over);
 }
+
+pub ran_kept : (x : List ℕ) {old new : RunningText} (r : Option (Unit {0})) → Ran x old new r → Kept old new
+ran_kept x (Some _) p = record { contents = p.contents; limit = p.limit; long = p.long }
+ran_kept x None p = record { contents = p.contents; limit = p.limit; long = p.long }
 
 -- nothing more of x was put, or nothing more of what x is the front of
 pub over_now : {x : List ℕ} (old : RunningText) → old.limit < old.at + length x → Over x old old

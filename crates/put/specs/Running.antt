@@ -18,6 +18,12 @@ pub record Reads (r : RunningText) (source : Source) : Type 0 where
   pub below : r.at ≤ r.limit
   pub fits : r.limit ≤ length r.work.now
 
+-- what a running text keeps whatever is put into it
+pub record Kept (old new : RunningText) : Type 0 where
+  pub contents : new.contents.now ≡ old.contents.now
+  pub limit : new.limit ≡ old.limit
+  pub long : length new.work.now ≡ length old.work.now
+
 -- x was put into a running text
 pub record Grown (x : List ℕ) (old new : RunningText) : Type 0 where
   pub contents : new.contents.now ≡ old.contents.now

@@ -15,17 +15,16 @@ use std::io::Write;
 
 pub mod named;
 
-// The argument that a place stands in, where the URL is this argument, the list the next, and the notes follow. The sum stops at the
-// largest number of all, which no argument has.
+// The argument that a place of a refusal with this number stands in, where the URL is this argument, the list the next, and the notes follow.
+// The sum stops at the largest number of all, which no argument has.
 #[tactic(auto, unfolding(crate::specs::Report::argument_of))]
-fn argument_of(url: usize, refusal: Refusal) -> usize
+fn argument_of(url: usize, number: u64, place: Place) -> usize
     requires { url ≤ 71 }
-    ensures { result ≡ min (argument_of url refusal) (2 ^ 64 - 1) }
+    ensures { result ≡ min (argument_of url number place) (2 ^ 64 - 1) }
 {
-    let behind = match refusal {
-        Refusal::IndexLine(line) | Refusal::PastContents(line) | Refusal::NameTwice(line) => line,
-        Refusal::TooManyRecords => 65,
-        _ => refusal.place().file,
+    let behind = match place.file {
+        0 if number <= 4 => place.line,
+        file => file,
     };
     (url + 1).saturating_add(behind)
 }
@@ -47,16 +46,18 @@ fn say_line<W: Write>(to: &mut W, line: usize) -> io::Result<()>
 fn say_place(env: &impl Env, to: &mut impl Write, url: usize, refusal: Refusal) -> io::Result<()>
     requires { url ≤ 71 }
 {
+    let number = refusal.number();
+    let place = refusal.place();
     match refusal {
         Refusal::Sizes => return Ok(()),
         Refusal::NameForm => to.write_all(b"URL")?,
         Refusal::IndexLine(_)
         | Refusal::TooManyRecords
         | Refusal::PastContents(_)
-        | Refusal::NameTwice(_) => say_argument(env, to, argument_of(url, refusal))?,
+        | Refusal::NameTwice(_) => say_argument(env, to, argument_of(url, number, place))?,
         _ => {
-            say_argument(env, to, argument_of(url, refusal))?;
-            say_line(to, refusal.place().line)?;
+            say_argument(env, to, argument_of(url, number, place))?;
+            say_line(to, place.line)?;
         }
     }
     to.write_all(b": ")
@@ -73,7 +74,7 @@ fn say_name(
     requires { url ≤ 71 }
 {
     if let Refusal::SharedAnchor(_, second) = refusal {
-        say_argument(env, to, (url + 1).saturating_add(second.file))?;
+        say_argument(env, to, argument_of(url, refusal.number(), second))?;
         return say_line(to, second.line);
     }
     match input.name_at(refusal.place()) {

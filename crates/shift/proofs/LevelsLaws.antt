@@ -7,6 +7,7 @@ use mathlib.Core.Bool.{Bool, true, false, false≢true}
 use mathlib.Core.List.{List, [], ◌∷◌}
 use lib.ListN.{length}
 use lib.IntN.{ℤ, pos, ◌+ℤ◌}
+use lib.Signed.{mag}
 use Rattle.std.specs.List.{All}
 use Rattle.std.proofs.lemmas.List.Elements.{All-nil, All-cons}
 use Rattle.text.specs.Lines.{pieces}
@@ -101,7 +102,7 @@ module _ (target : ℕ) {ks : List LineKind} where
   pub shift_none : AreLevels ks None → ShiftOf target ks (Ok (pos 0))
   shift_none a =
       let z : shift_for target ks ≡ pos 0 = ap (shift_of target) (sym a.shallow) in
-      (sym z, rw z (none-past (pos 0) ks (sym a.shallow)))
+      (sym z, (omega arith, rw z (none-past (pos 0) ks (sym a.shallow))))
 
   -- x is the shift to the target
   module _ {l : Levels} (a : AreLevels ks (Some l)) (x : ℤ) (r : x ≡ shift_of target (Some l.shallowest)) where
@@ -119,8 +120,8 @@ module _ (target : ℕ) {ks : List LineKind} where
             rw (d, e) (deepest-past l.shallowest m (shift_of (suc m) (Some l.shallowest)) (shift_level (suc m) l.shallowest) ks (sym a.shallow))
 
     -- the answers
-    pub shift_by : any_past x ks ≡ false → ShiftOf target ks (Ok x)
-    shift_by p = (shift_is, ap (λ (z : ℤ). any_past z ks) (sym shift_is) ∙ p)
+    pub shift_by : mag x ≤ 7 → any_past x ks ≡ false → ShiftOf target ks (Ok x)
+    shift_by m p = (shift_is, (m, ap (λ (z : ℤ). any_past z ks) (sym shift_is) ∙ p))
 
     pub shift_past_at : {n : ℕ} → any_past x ks ≡ true → n ≡ 1 + first_past x ks → ShiftOf target ks (Err n)
     shift_past_at p q = (ap (λ (z : ℤ). any_past z ks) (sym shift_is) ∙ p, q ∙ ap (λ (z : ℤ). 1 + first_past z ks) shift_is)

@@ -1,5 +1,6 @@
 -- The levels of a text's headings, and the shift of them. Nothing here is document 01's: functions promise it.
 use Rattle.std.specs.Prelude.{ℕ, ℤ, ◌+◌, ◌≤◌, ◌≡◌, true, false, List, Option, Some, None, Result, Ok, Err}
+use Rattle.std.specs.Int.Signed.{mag}
 use Rattle.text.specs.Lines.{pieces}
 use Rattle.heading.specs.Walk.{walk_begin, kinds_from}
 use Rattle.heading.specs.Level.{shallowest_of, deepest_of, any_past, first_past, IsLevel}
@@ -36,7 +37,7 @@ pub record AreLevels (ks : List LineKind) (found : Option Levels) : Type 0 where
 
 -- the shift of lines to a target level, where no heading goes past level 6; or the first line that does, counted from 1
 abbrev pub ShiftOf : ℕ → List LineKind → Result ℤ ℕ → Type 0
-ShiftOf target ks (Ok x) = (x ≡ shift_for target ks) × (any_past (shift_for target ks) ks ≡ false)
+ShiftOf target ks (Ok x) = (x ≡ shift_for target ks) × ((mag x ≤ 7) × (any_past (shift_for target ks) ks ≡ false))
 ShiftOf target ks (Err n) = (any_past (shift_for target ks) ks ≡ true) × (n ≡ 1 + first_past (shift_for target ks) ks)
 
 -- the same of a text

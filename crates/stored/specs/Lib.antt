@@ -1,2 +1,3 @@
 pub mod Header
 pub mod Row
+pub mod Case

@@ -1,12 +1,22 @@
 // Stored cases of a call with a walk, replayed: index, contents and two more texts, the limits, and the sizes of output and work.
-ghost use Rattle.std.specs.Prelude.{OnOk};
+ghost use Rattle.std.specs.Prelude.{OnOk, IfSome};
 ghost use Rattle.std.specs.Io.KnownBytes.{Appends};
+ghost use Rattle.stored.specs.Case.{Small};
 ghost use Rattle.stored.specs.Row.{answer_text};
 
 use crate::header;
 use crate::print::Row;
 use std::io;
 use std::io::{Read, Write};
+
+// The four texts together.
+const MOST_GIVEN: usize = 16_384;
+
+// An output, or a work buffer.
+const MOST_ROOM: usize = 65_536;
+
+// Six digits, as many as a header has for it.
+const MOST_ALLOWANCE: usize = 999_999;
 
 // What a call is handed, but for its output and work buffer.
 #[derive(Clone, Copy)]
@@ -32,19 +42,28 @@ struct Sizes {
     work: usize,
 }
 
-// The numbers of four headers; None where one is ill formed.
-fn sizes_of(headers: &[u8]) -> Option<Sizes> {
+// The numbers of four headers; None where one is ill formed or there is no memory for the case.
+fn sizes_of(headers: &[u8]) -> Option<Sizes>
+    ensures { IfSome result Small }
+{
     let (index, contents) = header::parse(headers.get(..14)?)?;
     let (third, fourth) = header::parse(headers.get(14..28)?)?;
     let (limit, allowance) = header::parse(headers.get(28..42)?)?;
     let (out, work) = header::parse(headers.get(42..56)?)?;
+    let given = index
+        .saturating_add(contents)
+        .saturating_add(third)
+        .saturating_add(fourth);
+    if MOST_GIVEN < given || MOST_ROOM < out || MOST_ROOM < work || MOST_ALLOWANCE < allowance {
+        return None;
+    }
     Some(Sizes {
         index,
         contents,
         third,
         fourth,
         limit,
-        allowance: u32::try_from(allowance).ok()?,
+        allowance: allowance as u32,
         out,
         work,
     })
@@ -82,38 +101,27 @@ fn print_answer<W: Write>(to: &mut W, numbers: [u64; 6], out: &[u8]) -> io::Resu
     to.write_all(b"\n")
 }
 
-// Reads the texts of a case, makes its call in buffers of zeros, and prints the answer. Answers whether its sizes are none past the
-// buffers', which is judged before anything is read, and its texts are all there.
+// Reads the texts of a case, makes its call in buffers of zeros, and prints the answer. Answers whether its texts are all there.
 fn replay_texts<F: Fn(Case<'_>, &mut [u8], &mut [u8]) -> [u64; 6]>(
     from: &mut impl Read,
     to: &mut impl Write,
     sizes: Sizes,
     call: &F,
 ) -> io::Result<bool>
-    requires { F.IsAlwaysCallable call.now }
+    requires { F.IsAlwaysCallable call.now × Small sizes }
 {
-    let mut given = [0u8; 16384];
-    let mut out = [0u8; 65536];
-    let mut work = [0u8; 65536];
-    let end = sizes
-        .index
-        .saturating_add(sizes.contents)
-        .saturating_add(sizes.third)
-        .saturating_add(sizes.fourth);
-    let (Some(given), Some(out), Some(work)) = (
-        given.get_mut(..end),
-        out.get_mut(..sizes.out),
-        work.get_mut(..sizes.work),
-    ) else {
-        return Ok(false);
-    };
+    let mut given = [0u8; MOST_GIVEN];
+    let mut out = [0u8; MOST_ROOM];
+    let mut work = [0u8; MOST_ROOM];
+    let given = &mut given[..sizes.index + sizes.contents + sizes.third + sizes.fourth];
     if !crate::is_filled(from, given)? {
         return Ok(false);
     }
     let Some(case) = case_of(given, sizes) else {
         return Ok(false);
     };
-    let numbers = call(case, out, work);
+    let out = &mut out[..sizes.out];
+    let numbers = call(case, out, &mut work[..sizes.work]);
     print_answer(to, numbers, out)?;
     Ok(true)
 }

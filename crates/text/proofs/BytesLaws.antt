@@ -85,6 +85,11 @@ first_past f (x ∷ a) b e =
     let ih : first f (a ++ b) ≡ length a + first f b = first_past f a b (or_right (f x) (any f a) e) in
     rw (or_left (f x) (any f a) e) (omega arith)
 
+pub first_none : (f : ℕ → Bool) (s : List ℕ) → any f s ≡ false → first f s ≡ length s
+unfolding any first
+first_none f [] e = refl
+first_none f (x ∷ s) e = rw (or_left (f x) (any f s) e) (ap suc (first_none f s (or_right (f x) (any f s) e)))
+
 pub first_inside : (f : ℕ → Bool) (a b : List ℕ) → any f a ≡ true → first f (a ++ b) ≡ first f a
 unfolding any first
 first_inside f [] b e = absurd (false≢true e)

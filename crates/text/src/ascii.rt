@@ -19,18 +19,30 @@ fn find_wide_near(s: &[u8]) -> usize
     s.iter().position(|b| 0x80 <= *b).unwrap_or(s.len())
 }
 
-// The first place of such a byte, or the length.
+// The same, where there is none at once.
+fn find_wide_in(s: &[u8]) -> usize
+    ensures { (result ≡ first is_wide s.now) × (result ≤ length s.now) }
+{
+    if has_wide(s) {
+        find_wide_near(s)
+    } else {
+        s.len()
+    }
+}
+
+// The first place of such a byte, or the length. Blocks are of constant length, which `chunks` does not tell the compiler.
 pub fn find_wide(s: &[u8]) -> usize
     ensures { (result ≡ first is_wide s.now) × (result ≤ length s.now) }
 {
-    let mut seen = 0;
-    for block in s.chunks(256) {
-        if has_wide(block) {
-            return seen + find_wide_near(block);
+    let blocks = s.len() / 256;
+    for k in 0..blocks {
+        let i = 256 * k;
+        if has_wide(&s[i..i + 256]) {
+            return i + find_wide_near(&s[i..]);
         }
-        seen += block.len();
     }
-    seen
+    let rest = 256 * blocks;
+    rest + find_wide_in(&s[rest..])
 }
 
 // The line of the first such byte; None where there is none.

@@ -7,8 +7,11 @@ use Rattle.index.specs.Index.{File}
 use Rattle.walk.specs.Steps.{judge}
 use Rattle.walk.specs.Outcome.{outcome}
 use Rattle.assembled.specs.Assemble.{assemble}
-use Rattle.listed.proofs.FilesLaws.{all_lie, files-same}
+use Rattle.listed.proofs.FilesLaws.{have_rows, all_lie, files-same}
 use Rattle.assemble_call.proofs.assemble_listed.Goals as goal
+
+pub members_of-members-requires : goal.members_of-members-requires
+members_of-members-requires c = have_rows c.args.files c.requires.1.0 (omega arith)
 
 pub assemble-requires : goal.assemble-requires
 assemble-requires c =

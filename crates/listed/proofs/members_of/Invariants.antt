@@ -5,4 +5,4 @@ use Rattle.listed.specs.Files.{line_members}
 use Rattle.listed.proofs.members_of.Given as goal
 
 abbrev pub invariant-loop-k : goal.invariant-loop-k
-invariant-loop-k l = l.members.items ≡ line_members l.files.rows.now (take l.k-index l.lines)
+invariant-loop-k l = l.members.items ≡ line_members l.rows (take l.k-index l.lines)

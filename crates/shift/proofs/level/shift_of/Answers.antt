@@ -14,7 +14,7 @@ pub past_line-requires : goal.past_line-requires
 past_line-requires c =
     let x = c.shift_to-shift in
     let k = to_z-of_z w32 x.result (search rules) in
-    rw k (shift_past c.args.target c.in-Some.ensures x.result x.ensures (omega arith) (rw k at c.is_past.ensures) ∙ c.if-is_past.true)
+    rw k (shift_past c.args.target c.in-Some.ensures x.result x.ensures.0 (omega arith) (rw k at c.is_past.ensures) ∙ c.if-is_past.true)
 
 pub returns-then-is_past : goal.returns-then-is_past
 returns-then-is_past c =
@@ -22,7 +22,7 @@ returns-then-is_past c =
     let l = c.in-Some.ensures in
     let x = c.shift_to-shift in
     let k = to_z-of_z w32 x.result (search rules) in
-    shift_past_at t l x.result x.ensures (shift_past t l x.result x.ensures (omega arith) (rw k at c.is_past.ensures) ∙ c.if-is_past.true) (rw k at c.past_line.ensures)
+    shift_past_at t l x.result x.ensures.0 (shift_past t l x.result x.ensures.0 (omega arith) (rw k at c.is_past.ensures) ∙ c.if-is_past.true) (rw k at c.past_line.ensures)
 
 pub returns : goal.returns
 returns c =
@@ -30,4 +30,4 @@ returns c =
     let l = c.in-Some.ensures in
     let x = c.shift_to-shift in
     let k = to_z-of_z w32 x.result (search rules) in
-    rw k (shift_by t l x.result x.ensures (shift_past t l x.result x.ensures (omega arith) (rw k at c.is_past.ensures) ∙ c.if-is_past.false))
+    rw k (shift_by t l x.result x.ensures.0 x.ensures.1 (shift_past t l x.result x.ensures.0 (omega arith) (rw k at c.is_past.ensures) ∙ c.if-is_past.false))
