@@ -50,6 +50,13 @@ starts-zip [] (x ∷ s) h = refl
 starts-zip (b ∷ p) [] h = absurd (not-suc-le-zero h)
 starts-zip (b ∷ p) (x ∷ s) h = ap (λ r. eqb x b && r) (starts-zip p s (omega arith))
 
+-- a pattern at the start stands in the first bytes, as many as it has
+pub starts-front : (p s : List ℕ) → starts_with p (take (length p) s) ≡ starts_with p s
+unfolding starts_with
+starts-front [] s = refl
+starts-front (b ∷ p) [] = refl
+starts-front (b ∷ p) (x ∷ s) = ap (λ r. eqb x b && r) (starts-front p s)
+
 pub equals-pointwise : (s p : List ℕ) → pointwise eqb s p ≡ equals p s
 unfolding equals starts_with
 equals-pointwise [] [] = refl

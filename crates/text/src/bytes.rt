@@ -33,7 +33,7 @@ fn find_near(s: &[u8], b: u8) -> usize
 }
 
 // The first place of b from a place on, where there is one, byte by byte. By hand: `position` tests at each byte whether s ends, which
-// takes a search more than half as long again where b stands every 5 to 48 bytes.
+// takes 1.2 to 1.7 times the instructions where b stands every 3 to 64 bytes.
 fn find_here(s: &[u8], from: usize, b: u8) -> usize
     requires { from + first (is b) (drop from s.now) < length s.now }
     ensures { (result ≡ from + first (is b) (drop from s.now)) × (result ≤ length s.now) }
