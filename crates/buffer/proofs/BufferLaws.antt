@@ -7,7 +7,8 @@ use native.Mathlib.Omega.{arith}
 use mathlib.Core.Path.{◌≡◌, refl, sym, ap, ◌∙◌}
 use mathlib.Core.List.{List, [], ◌∷◌, ◌++◌, append_assoc}
 use lib.ListN.{length, take, drop, get_or, set, length-append}
-use lib.Seq.{sets, sets-eq, set_comm, take-suc, length-take-le, take_at, drop_at, drop-set-lt, get_or-set_other, get_or-take, get_or-drop}
+use borrow.Rule.Slice.PartMut.{put_mid}
+use lib.Seq.{sets, sets-eq, set_comm, take-suc, drop-drop, length-take-le, take_at, drop_at, drop-set-lt, get_or-set_other, get_or-take, get_or-drop}
 use Rattle.text.specs.Bytes.{part}
 use Rattle.text.proofs.BytesLaws.{part_full}
 
@@ -57,6 +58,11 @@ take_sets l b i e q h =
 
 pub set_before : (l : List ℕ) (i x : ℕ) → 0 < i → i ≤ length l → drop (i - 1) (set l (i - 1) x) ≡ x ∷ drop i l
 set_before l i x h k = drop_sets l (x ∷ []) (i - 1) i (omega arith) k
+
+-- a part of as many bytes as are written there, once it holds them
+pub part_written : (l b : List ℕ) (i : ℕ) → i + length b ≤ length l → put_mid i (length b) l b ≡ sets l i b
+part_written l b i h =
+    rw (drop-drop (length b) i l) (sym (sets-eq b l i h ∙ append_assoc (take i l) b (drop (i + length b) l)))
 
 -- a turn of a loop that copies
 pub sets_more : (l s : List ℕ) (i j : ℕ) → j < length s → set (sets l i (take j s)) (i + j) (get_or s j 0) ≡ sets l i (take (j + 1) s)

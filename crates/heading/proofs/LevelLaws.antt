@@ -4,16 +4,16 @@ use Rattle.std.specs.Prelude.{Option, Some, None}
 use Prim.Native.Nat.{ℕ, ◌+◌, ◌≤◌}
 use native.Mathlib.Numerals.{add-one}
 use native.Mathlib.Omega.{arith}
-use mathlib.Core.Path.{◌≡◌, refl, sym, ap, ◌∙◌}
+use mathlib.Core.Path.{◌≡◌, refl, ap, ◌∙◌}
 use mathlib.Core.Bool.{Bool, true, false, cond, ◌&&◌}
-use mathlib.Core.List.{List, [], ◌∷◌, ◌++◌, append_assoc}
+use mathlib.Core.List.{List, [], ◌∷◌, ◌++◌}
 use borrow.Author.Tests.{leb-true}
 use lib.Dec.{leb}
 use lib.IntN.{ℤ, pos, negsuc}
-use lib.ListN.{length, set, take, drop, replicate, length-replicate}
+use lib.ListN.{length, set, replicate, length-replicate}
 use borrow.Rule.Slice.PartMut.{put_mid}
-use lib.Seq.{sets, sets-eq, drop-drop}
-use Rattle.buffer.proofs.BufferLaws.{sets_append}
+use lib.Seq.{sets}
+use Rattle.buffer.proofs.BufferLaws.{sets_append, part_written}
 use Rattle.fence.specs.declared.Fence.{Fence}
 use Rattle.heading.specs.Walk.{step_kind, step_after, kinds_from}
 use Rattle.heading.specs.Level.{shallower, shallowest_of, moved_to, heading_line, IsLevel}
@@ -40,9 +40,7 @@ behind l b at i n x h =
 
 -- a part of n bytes, once they are all one byte
 pub hashes_written : (l : List ℕ) (at n x : ℕ) → at + n ≤ length l → put_mid at n l (replicate n x) ≡ sets l at (replicate n x)
-hashes_written l at n x h =
-    let e : sets l at (replicate n x) ≡ take at l ++ replicate n x ++ drop (at + n) l = rw length-replicate at (sets-eq (replicate n x) l at (omega (arith, length-replicate n x))) in
-    rw (drop-drop n at l) (sym (e ∙ append_assoc (take at l) (replicate n x) (drop (at + n) l)))
+hashes_written l at n x h = rw length-replicate at (part_written l (replicate n x) at (omega (arith, length-replicate n x)))
 
 -- the hashes, a space and the text
 pub heading-written : (l text : List ℕ) (at n : ℕ) {m o : List ℕ} → m ≡ sets l at (replicate n 0x23) → o ≡ sets (set m (at + n) 0x20) (at + n + 1) text

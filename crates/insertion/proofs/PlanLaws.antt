@@ -2,13 +2,14 @@
 use Rattle.std.specs.Prelude.{Some, None, Ok, Err}
 use Prim.Native.Nat.{ℕ, ◌+◌, ◌-◌, ◌≤◌, ◌<◌}
 use native.Mathlib.Omega.{arith}
-use mathlib.Core.Path.{◌≡◌, sym, ap, ◌∙◌}
+use mathlib.Core.Path.{◌≡◌, sym, ap, subst, ◌∙◌}
 use mathlib.Core.Bool.{true, false}
 use mathlib.Core.List.{List, [], ◌++◌, map, append-nil}
 use borrow.Author.Tests.{le-leb, lt-leb}
 use lib.ListN.{length, take, drop, length-append}
 use lib.Seq.{sets, sets-eq, take_at, length-take-le}
 use lib.IntN.{ℤ}
+use lib.Signed.{mag}
 use Rattle.answer.specs.Answer.{place}
 use Rattle.answer.specs.declared.Place.{Place}
 use Rattle.answer.specs.declared.Refusal.{Refusal}
@@ -18,12 +19,14 @@ use Rattle.text.specs.Lines.{pieces, led}
 use Rattle.text.proofs.BytesLaws.{part_full}
 use Rattle.heading.specs.Walk.{walk_begin, kinds_from}
 use Rattle.heading.specs.Level.{any_past, first_past}
+use Rattle.heading.specs.declared.walk.LineKind.{LineKind}
 use Rattle.path.specs.Path.{parent_dir}
 use Rattle.walk.specs.Parts.{Part, good, flawed}
 use Rattle.shift.specs.Shift.{told_from, drop_start, drop_end, shift_for, past_from}
 use Rattle.shift.specs.Ends.{lines_in, AreEnds}
-use Rattle.shift.specs.Levels.{ShiftTo}
+use Rattle.shift.specs.Levels.{kinds_in, ShiftTo}
 use Rattle.shift.proofs.EndsLaws.{lines-some}
+use Rattle.shift.proofs.LevelsLaws.{text_small}
 use Rattle.shift.proofs.ShiftLaws.{kinds_told, past-none, past-some}
 use Rattle.embedding.specs.Embed.{embed_told}
 use Rattle.put.specs.Put.{source_text, part_of}
@@ -68,12 +71,15 @@ module _ {s : List ℕ} {a e : ℕ} (ends : AreEnds s a e) (target : ℕ) where
         let p = embed-past host name target d (pieces (part a e s)) h.0 in
         (p.0, text-is host name d ∙ p.1 ∙ ap (λ (k : ℕ). flawed (HeadingLevel (place d k)) p.0) (sym h.1))
 
-    pub plan_lines : (z : ℤ) → ShiftTo (part a e s) target (Ok z) → PlanOf s target (Ok (Some (record { start = a; end = e; shift = z })))
+    abbrev ks : List LineKind
+    ks = kinds_in (part a e s)
+
+    pub plan_lines : (z : ℤ) → (z ≡ shift_for target ks) × (any_past (shift_for target ks) ks ≡ false) → PlanOf s target (Ok (Some (record { start = a; end = e; shift = z })))
     plan_lines z h = (
-      (ends.order, (ends.within, h.1.0)),
+      (ends.order, (ends.within, subst (λ (y : ℤ). mag y ≤ 7) (sym h.0) (text_small target (part a e s) h.1))),
       λ host name d.
           text-is host name d
-          ∙ embed_good host name target d (pieces (part a e s)) h.1.1
+          ∙ embed_good host name target d (pieces (part a e s)) h.1
           ∙ ap (λ (y : ℤ). good (map (linked_line host (parent_dir name) y) (told_from walk_begin (pieces (part a e s))))) (sym h.0),
     )
 

@@ -1,8 +1,9 @@
 -- Laws of one member emitted behind those before it. Assumes nothing.
-use Rattle.std.specs.Prelude.{Option, Some, None, Ok, Err}
+use Rattle.std.specs.Prelude.{Option, Some, None, Err}
 use Prim.Native.Nat.{ℕ, ◌+◌, ◌≤◌, ◌<◌}
 use native.Mathlib.Omega.{arith}
 use mathlib.Core.Path.{◌≡◌, sym, ap, ◌∙◌}
+use mathlib.Core.Bool.{false}
 use mathlib.Core.List.{List, ◌∷◌, ◌++◌}
 use borrow.Author.Tests.{le-leb, lt-leb}
 use lib.IntN.{ℤ}
@@ -16,13 +17,15 @@ use Rattle.text.specs.Lines.{LF}
 use Rattle.text.specs.Split.{join}
 use Rattle.path.specs.Path.{parent_dir}
 use Rattle.link.specs.Target.{rewrite_target}
+use Rattle.heading.specs.Level.{any_past}
+use Rattle.shift.specs.Shift.{shift_for}
 use Rattle.walk.specs.Parts.{Part, good, flawed}
 use Rattle.walk.specs.Steps.{Steps, go, refused, judge}
 use Rattle.put.specs.Running.{Grown, Ran}
 use Rattle.put.specs.declared.running.RunningText.{RunningText}
 use Rattle.member.specs.Member.{Prepared}
 use Rattle.member.specs.Lines.{kept_lines}
-use Rattle.outline.specs.Outline.{ShiftBelow}
+use Rattle.outline.specs.Outline.{moved_kinds, ShiftBelow}
 use Rattle.emitted.specs.Emit.{emit, join_lines}
 use Rattle.emission.specs.Emission.{emitted_lines}
 use Rattle.emission.proofs.EmitLaws.{emit_good, emit-past}
@@ -33,9 +36,10 @@ use Rattle.joining.proofs.RuleLaws.{join_rule, join-some}
 -- ---- one member, by whether a heading goes past level 6
 
 module _ (titles : List ℕ → Option (List ℕ)) (url s : List ℕ) (m : Prepared) (kept : m.lines ≡ kept_lines s) where
-  pub shifted_good : (z : ℤ) → ShiftBelow s (Ok z) → emit titles url m ≡ good (emitted_lines (rewrite_target titles url (parent_dir m.name)) z s)
+  pub shifted_good : (z : ℤ) → (z ≡ shift_for 2 (moved_kinds s)) × (any_past (shift_for 2 (moved_kinds s)) (moved_kinds s) ≡ false)
+      → emit titles url m ≡ good (emitted_lines (rewrite_target titles url (parent_dir m.name)) z s)
   shifted_good z h =
-      emit_good titles url m s kept h.1.1 ∙ ap (λ (y : ℤ). good (emitted_lines (rewrite_target titles url (parent_dir m.name)) y s)) (sym h.0)
+      emit_good titles url m s kept h.1 ∙ ap (λ (y : ℤ). good (emitted_lines (rewrite_target titles url (parent_dir m.name)) y s)) (sym h.0)
 
   pub shifted_past : (n : ℕ) → ShiftBelow s (Err n) → (xs : List Refusal) × (emit titles url m ≡ flawed (HeadingLevel (place m.file n)) xs)
   shifted_past n h =

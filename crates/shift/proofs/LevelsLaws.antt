@@ -1,13 +1,15 @@
 -- Laws of `specs/Levels.antt`: levels found line by line, the first line that goes past, and the shift. Assumes nothing.
 use Rattle.std.specs.Prelude.{Option, Some, None, Ok, Err}
-use Prim.Native.Nat.{ℕ, zero, suc, ◌+◌, ◌≤◌}
+use Prim.Native.Nat.{ℕ, zero, suc, ◌+◌, ◌-◌, ◌≤◌}
 use native.Mathlib.Omega.{arith}
 use mathlib.Core.Path.{◌≡◌, refl, sym, subst, ap, ◌∙◌}
-use mathlib.Core.Bool.{Bool, true, false, false≢true}
+use mathlib.Core.Bool.{Bool, true, false, cond, ◌&&◌, false≢true}
 use mathlib.Core.List.{List, [], ◌∷◌}
 use lib.ListN.{length}
-use lib.IntN.{ℤ, pos, ◌+ℤ◌}
+use lib.Dec.{ltb, leb}
+use lib.IntN.{ℤ, pos, negsuc, ◌+ℤ◌}
 use lib.Signed.{mag}
+use borrow.Author.Tests.{leb-true, ltb-false}
 use Rattle.std.specs.List.{All}
 use Rattle.std.proofs.lemmas.List.Elements.{All-nil, All-cons}
 use Rattle.text.specs.Lines.{pieces}
@@ -97,6 +99,41 @@ pub ahead_end : {z : ℤ} {ks rest : List LineKind} {n : ℕ} {p : Type 0} → A
 unfolding any_past
 ahead_end h e = absurd (false≢true (rw e at h.some))
 
+-- a shift that takes a level of at most 6 to a level is small
+level-small : (d : ℕ) (z : ℤ) → d ≤ 6 → is_past (moved_to (pos d +ℤ z)) ≡ false → mag z ≤ 7
+level-small d (pos k) h p = go (leb 1 (d + k)) (leb (d + k) 6) refl p
+  where
+    go : (a b : Bool) → leb (d + k) 6 ≡ b → is_past (cond (a && b) (Some (d + k)) None) ≡ false → k ≤ 7
+    go true true q e = omega (arith, leb-true (d + k) 6 q)
+    go true false q e = absurd (false≢true (sym e))
+    go false b q e = absurd (false≢true (sym e))
+level-small d (negsuc k) h p = go (ltb d (suc k)) refl p
+  where
+    go : (b : Bool) → ltb d (suc k) ≡ b → is_past (moved_to (cond b (negsuc (suc k - suc d)) (pos (d - suc k)))) ≡ false → k ≤ 7
+    go true q e = absurd (false≢true (sym e))
+    go false q e = omega (arith, ltb-false d (suc k) q)
+
+-- so is one that takes such a level to 0
+from-zero : (n : ℕ) → n ≤ 6 → mag (shift_of 0 (Some n)) ≤ 7
+from-zero zero h = let e : mag (shift_of 0 (Some 0)) ≡ 0 = refl in omega arith
+from-zero (suc n) h = go (ltb 0 (suc n))
+  where
+    go : (b : Bool) → mag (cond b (negsuc (suc n - 1)) (pos (0 - suc n))) ≤ 7
+    go true = omega arith
+    go false = omega arith
+
+-- so is the shift of lines to any target, where no heading goes past; and that of a text
+pub shift_small : (target : ℕ) (ks : List LineKind) → IsLevel (shallowest_of None ks) → deepest_of 0 ks ≤ 6 → any_past (shift_for target ks) ks ≡ false → mag (shift_for target ks) ≤ 7
+shift_small target ks l d p = go target (shallowest_of None ks) refl l p
+  where
+    go : (t : ℕ) (top : Option ℕ) → shallowest_of None ks ≡ top → IsLevel top → any_past (shift_of t top) ks ≡ false → mag (shift_of t top) ≤ 7
+    go t None e l p = omega arith
+    go zero (Some n) e l p = from-zero n l.1
+    go (suc m) (Some n) e l p = level-small (deepest_of 0 ks) (shift_of (suc m) (Some n)) d (sym (deepest-past n m (shift_of (suc m) (Some n)) (shift_level (suc m) n) ks e) ∙ p)
+
+pub text_small : (target : ℕ) (s : List ℕ) → any_past (shift_for target (kinds_in s)) (kinds_in s) ≡ false → mag (shift_for target (kinds_in s)) ≤ 7
+text_small target s p = shift_small target (kinds_in s) (level-lines None walk_begin (pieces s) tt) (deepest-small 0 walk_begin (pieces s) (omega arith)) p
+
 module _ (target : ℕ) {ks : List LineKind} where
   -- with no heading none goes past
   pub shift_none : AreLevels ks None → ShiftOf target ks (Ok (pos 0))
@@ -120,8 +157,11 @@ module _ (target : ℕ) {ks : List LineKind} where
             rw (d, e) (deepest-past l.shallowest m (shift_of (suc m) (Some l.shallowest)) (shift_level (suc m) l.shallowest) ks (sym a.shallow))
 
     -- the answers
-    pub shift_by : mag x ≤ 7 → any_past x ks ≡ false → ShiftOf target ks (Ok x)
-    shift_by m p = (shift_is, (m, ap (λ (z : ℤ). any_past z ks) (sym shift_is) ∙ p))
+    pub shift_by : any_past x ks ≡ false → ShiftOf target ks (Ok x)
+    shift_by p =
+        let q = ap (λ (z : ℤ). any_past z ks) (sym shift_is) ∙ p in
+        let m = shift_small target ks (subst IsLevel a.shallow a.level) (omega (arith, a.deep, a.small)) q in
+        (shift_is, (subst (λ (z : ℤ). mag z ≤ 7) (sym shift_is) m, q))
 
     pub shift_past_at : {n : ℕ} → any_past x ks ≡ true → n ≡ 1 + first_past x ks → ShiftOf target ks (Err n)
     shift_past_at p q = (ap (λ (z : ℤ). any_past z ks) (sym shift_is) ∙ p, q ∙ ap (λ (z : ℤ). 1 + first_past z ks) shift_is)

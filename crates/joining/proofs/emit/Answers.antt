@@ -15,7 +15,7 @@ pub returns-in-Ok-clause-added : goal.returns-in-Ok-clause-added
 returns-in-Ok-clause-added c =
     let h = rw (c.bytes-text.ensures.text, c.text.ensures) at c.in-Ok.ensures in
     rw c.answer_of.ensures
-    (behind-lines c.args.running.now c.args.assembly c.requires.can c.requires.among.0 c.args.i _ c.requires.among.1 c.in-Ok.shift h c.put_behind-put.result (rw (to_z-of_z w32 c.in-Ok.shift (search rules)) at c.put_behind-put.ensures.ran))
+    (behind-lines c.args.running.now c.args.assembly c.requires.can c.requires.among.0 c.args.i _ c.requires.among.1 c.in-Ok.shift (h.0, h.1.1) c.put_behind-put.result (rw (to_z-of_z w32 c.in-Ok.shift (search rules)) at c.put_behind-put.ensures.ran))
 
 pub returns-in-Ok-clause-kept : goal.returns-in-Ok-clause-kept
 returns-in-Ok-clause-kept c = ran_kept _ c.put_behind-put.result c.put_behind-put.ensures.ran

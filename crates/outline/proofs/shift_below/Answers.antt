@@ -28,4 +28,4 @@ returns c =
     let l = rw c.in-Some.is at c.requires in
     let x = c.shift_to-shift in
     let k = to_z-of_z w32 x.result (search rules) in
-    rw k (shift_by 2 l x.result x.ensures.0 x.ensures.1 (shift_past 2 l x.result x.ensures.0 (omega arith) (rw k at c.is_past.ensures) ∙ c.if-is_past.false))
+    rw k (shift_by 2 l x.result x.ensures.0 (shift_past 2 l x.result x.ensures.0 (omega arith) (rw k at c.is_past.ensures) ∙ c.if-is_past.false))

@@ -17,7 +17,7 @@ returns-in-Ok c =
     let z : ℤ = c.in-Ok.shift in
     let h = rw c.in-Ok.is at c.shift_of.ensures in
     subst (λ (x : ℤ). PlanOf c.args.s.now c.args.target (Ok (Some (record { start = c.blank_ends-ends.result.start; end = c.blank_ends-ends.result.end; shift = x })))) (sym (to_z-of_z w32 z (search rules)))
-    (plan_lines c.blank_ends-ends.ensures c.args.target c.if-start-end.false z h)
+    (plan_lines c.blank_ends-ends.ensures c.args.target c.if-start-end.false z (h.0, h.1.1))
 
 pub returns-in-Err : goal.returns-in-Err
 returns-in-Err c = plan_past c.blank_ends-ends.ensures c.args.target c.if-start-end.false c.in-Err.line (rw c.in-Err.is at c.shift_of.ensures)

@@ -30,4 +30,4 @@ returns c =
     let l = c.in-Some.ensures in
     let x = c.shift_to-shift in
     let k = to_z-of_z w32 x.result (search rules) in
-    rw k (shift_by t l x.result x.ensures.0 x.ensures.1 (shift_past t l x.result x.ensures.0 (omega arith) (rw k at c.is_past.ensures) ∙ c.if-is_past.false))
+    rw k (shift_by t l x.result x.ensures.0 (shift_past t l x.result x.ensures.0 (omega arith) (rw k at c.is_past.ensures) ∙ c.if-is_past.false))
